@@ -1,0 +1,32 @@
+// Why a call refuses. A refusal has a number, and what was asked for has not happened: everything
+// is as it was.
+ghost use Rattle.fault.specs.Refusals.{numberOf};
+ghost use mathlib.Core.Path.{_≡_};
+
+#[derive(Clone, Copy, PartialEq, Eq, Debug)]
+pub enum Refusal {
+    // Memory that was handed over or lent has a length out of range.
+    Memory,
+    // Bytes wait on a line that has to be empty.
+    Waiting,
+}
+
+impl Refusal {
+    // The number by which the refusal is reported; no other refusal has it.
+    pub fn number(self) -> u8
+        ensures value { λ r. ⌜ r ≡ numberOf self ⌝ }
+        ensures alone { λ r. ⌜ ((other : Refusal) → numberOf other ≡ r → other ≡ self) ⌝ }
+    {
+        match self {
+            Refusal::Memory => 2,
+            Refusal::Waiting => 7,
+        }
+    }
+}
+
+// A refusal that gives back what was handed over with the call.
+#[derive(Drop)]
+pub struct Rejected<T> {
+    pub refusal: Refusal,
+    pub value: T,
+}
