@@ -1,1 +1,2 @@
 pub mod Conserves
+pub mod Travels

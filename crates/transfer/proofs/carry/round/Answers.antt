@@ -1,0 +1,15 @@
+use Rattle.line.specs.Rules.{seen}
+use Rattle.transfer.proofs.Travels.{advanced}
+use Rattle.transfer.proofs.carry.round.Needs as need
+
+pub returns : need.returns
+returns g c =
+    let state = seen (g .L·Line .queue) (g .L·Line .ready) (g .L·Line .room) in
+    let trip = c .args .trip in
+    advanced (c .args .bytes .now) (c .args .into .now) (c .read-given .last .into) (trip .sent) (trip .got) (c .write-taken .result) (c .read-given .result) (state (c .args .line .now)) (state (c .write-taken .last .self)) (state (c .flush .last .self)) (state (c .read-given .last .self))
+    (c .pre .got)
+    (c .pre .memory)
+    (c .write-taken .ensures)
+    (c .flush .ensures)
+    (g .L·Line .within (c .flush .last .self))
+    (c .read-given .ensures)

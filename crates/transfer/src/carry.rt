@@ -1,0 +1,55 @@
+// A byte string from one end of a line to the other.
+ghost use Rattle.line.specs.Rules.{seen};
+ghost use Rattle.transfer.specs.Rounds.{Advanced, Carried, carryRefusal};
+ghost use Rattle.std.specs.Results.{Cases, errPart};
+ghost use Prim.Native.Nat.{_≤_};
+ghost use lib.ListN.{length};
+ghost use mathlib.Core.Path.{_≡_};
+use fault::Refusal;
+use line::lines::Line;
+
+// How many bytes the line has taken so far, and how many of them it has given.
+#[derive(Clone, Copy)]
+struct Trip {
+    sent: usize,
+    got: usize,
+}
+
+// One round: writes what is not yet taken, flushes, and reads what has not yet arrived.
+fn round<L: Line>(line: &mut L, bytes: &[u8], into: &mut [u8], trip: Trip) -> Trip
+    requires sent { ⌜ trip .sent ≤ length (now bytes) ⌝ }
+    requires got { ⌜ trip .got ≤ length (now bytes) ⌝ }
+    requires memory { ⌜ length (now bytes) ≤ length (now into) ⌝ }
+    ensures { λ r. ⌜ Advanced (now (bytes .entry)) (trip .sent) (trip .got) (r .sent) (r .got) (now (into .entry)) (now (into .exit)) (seen queue ready room (now (line .entry))) (seen queue ready room (now (line .exit))) ⌝ }
+{
+    let Trip { sent, got } = trip;
+    let end = bytes.len();
+    let taken = line.write(&bytes[sent..]);
+    line.flush();
+    let given = line.read(&mut into[got..end]);
+    Trip {
+        sent: sent + taken,
+        got: got + given,
+    }
+}
+
+// Carries `bytes` over a line that is empty to the start of `into`, and answers how many rounds it
+// took.
+pub fn carry<L: Line>(line: &mut L, bytes: &[u8], into: &mut [u8]) -> Result<usize, Refusal>
+    ensures refused { λ r. ⌜ errPart r ≡ carryRefusal (now (bytes .entry)) (now (into .entry)) (queue (now (line .entry))) ⌝ }
+    ensures cases { λ r. ⌜ Cases r (λ rounds. Carried rounds (now (bytes .entry)) (now (into .entry)) (now (into .exit)) (seen queue ready room (now (line .entry))) (seen queue ready room (now (line .exit)))) (λ _. (now (into .exit) ≡ now (into .entry)) × (now (line .exit) ≡ now (line .entry))) ⌝ }
+{
+    if into.len() < bytes.len() {
+        return Err(Refusal::Memory);
+    }
+    if line.queued() > 0 {
+        return Err(Refusal::Waiting);
+    }
+    let mut trip = Trip { sent: 0, got: 0 };
+    let mut rounds = 0;
+    while trip.got < bytes.len() {
+        trip = round(line, bytes, into, trip);
+        rounds += 1;
+    }
+    Ok(rounds)
+}
