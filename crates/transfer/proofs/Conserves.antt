@@ -1,10 +1,10 @@
 -- Every run conserves the bytes.
 use mathlib.Core.Path.{_≡_, refl, sym, ap, subst, _∙_}
 use mathlib.Core.List.{List, [], _∷_, _++_, map}
-use Prim.Native.Nat.{ℕ, min, _+_, _<_, _≤_}
+use Prim.Native.Nat.{ℕ, min, _+_, _-_, _<_, _≤_}
 use native.Mathlib.Omega.{arith}
 use lib.ListN.{length, take, drop, getD}
-use Rattle.std.proofs.shelf.Lists.{append-assoc, append-nil, length-take-le, take-at, take-all, take-append-drop, take-map, map-more, map-push}
+use Rattle.std.proofs.shelf.Lists.{append-assoc, append-nil, length-take-le, take-at, take-all, take-append-drop, take-map, length-map, map-more, map-push}
 use Rattle.line.specs.Rules.{State, Within, Wrote, Read, Flushed}
 use Rattle.transfer.specs.declared.calls.Answer.{Answer}
 use Rattle.transfer.specs.declared.calls.Call.{Call}
@@ -67,9 +67,9 @@ ran-next calls answers call answer i s m t l e h w =
     (ran-more (map act (take i calls)) (map reply answers) (act call) (reply answer) s m t h w))
 
 -- the calls before place `i` were made, and no more
-pub ran-only : (calls : List Call) (rs : List Reply) (i : ℕ) (s m t : State) → Ran (map act (take i calls)) rs s m → t ≡ m → Stopped (map act calls) s t
-ran-only calls rs i s m t h e =
-    (i, rs, subst (λ (z : List Act). Ran z rs s t) (sym (take-map act i calls)) (subst (λ (z : State). Ran (map act (take i calls)) rs s z) (sym e) h))
+pub ran-only : (calls : List Call) (rs : List Reply) (i : ℕ) (s m t : State) → i ≤ length calls - 1 → Ran (map act (take i calls)) rs s m → t ≡ m → Stopped (map act calls) s t
+ran-only calls rs i s m t l h e =
+    (i, rs, omega (arith, length-map calls act), subst (λ (z : List Act). Ran z rs s t) (sym (take-map act i calls)) (subst (λ (z : State). Ran (map act (take i calls)) rs s z) (sym e) h))
 
 -- all of them were made
 pub ran-all : (calls : List Call) (rs : List Reply) (i : ℕ) (s t : State) → length calls ≤ i → Ran (map act (take i calls)) rs s t → Ran (map act calls) rs s t

@@ -1,7 +1,7 @@
 -- Lists of calls to a line, what they answer, and the bytes that pass.
 use mathlib.Core.Path.{_≡_}
 use mathlib.Core.List.{List, [], _∷_, _++_}
-use Prim.Native.Nat.{ℕ, min}
+use Prim.Native.Nat.{ℕ, min, _-_, _≤_}
 use lib.ListN.{length, take}
 use Rattle.line.specs.Rules.{State, Wrote, Flushed}
 use Rattle.std.specs.Of.Vec.{vec-items}
@@ -56,9 +56,9 @@ Ran [] (r ∷ rs) before after = ⊥
 Ran (a ∷ acts) [] before after = ⊥
 Ran (a ∷ acts) (r ∷ rs) before after = (between : State) × Answered a r before between × Ran acts rs between after
 
--- Only the first of the calls were made.
+-- Only the first of the calls were made, and at least the last was not.
 abbrev pub Stopped : List Act → State → State → Type 0
-Stopped acts before after = (made : ℕ) × (replies : List Reply) × Ran (take made acts) replies before after
+Stopped acts before after = (made : ℕ) × (replies : List Reply) × (made ≤ length acts - 1) × Ran (take made acts) replies before after
 
 -- the bytes that a line took in a run, and those that it gave
 abbrev pub takenIn : Act → Reply → List ℕ

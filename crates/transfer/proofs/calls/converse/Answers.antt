@@ -14,7 +14,7 @@ use Rattle.transfer.proofs.calls.converse.Needs as need
 pub returns-in-Break-answers : need.returns-in-Break-answers
 returns-in-Break-answers g c =
     record {
-      ran = cases-from-err (c .from-residual .result) _ _ (c .from-residual .ensures .0) (λ _. (0, [], refl));
+      ran = cases-from-err (c .from-residual .result) _ _ (c .from-residual .ensures .0) (λ _. (0, [], omega arith, refl));
       conserved = made-from-err (c .from-residual .result) _ (c .from-residual .ensures .0);
     }
 
@@ -23,7 +23,7 @@ returns-in-Break-answer g c =
     let state = seen (g .L·Line .queue) (g .L·Line .ready) (g .L·Line .room) in
     let failed = c .from-residual-in-Break-answer in
     record {
-      ran = cases-from-err (failed .result) _ _ (failed .ensures .0) (λ _. ran-only (c .args .calls .now) _ (c .loop-call .call-index) (state (c .args .line .now)) (state (c .loop-call .line)) (state (c .make .last .line)) (c .loop-call .inv .0) (c .in-Break-answer .ensures tt));
+      ran = cases-from-err (failed .result) _ _ (failed .ensures .0) (λ _. ran-only (c .args .calls .now) _ (c .loop-call .call-index) (state (c .args .line .now)) (state (c .loop-call .line)) (state (c .make .last .line)) (omega arith) (c .loop-call .inv .0) (c .in-Break-answer .ensures tt));
       conserved = made-from-err (failed .result) _ (failed .ensures .0);
     }
 
