@@ -1,9 +1,10 @@
 // A line that holds bytes back, and hands them to the line below only when it is flushed.
 ghost use Rattle.line.specs.Queues.{behind, behind-opens, behind-within};
 ghost use Rattle.line.specs.Rules.{Flushed, Read, Wrote, seen, told};
-ghost use Prim.Native.Nat.{_-_, _≤_};
+ghost use Prim.Native.Nat.{_+_, _-_, _≤_};
 ghost use lib.Dec.{lit≤};
 ghost use lib.ListN.{drop, length, take};
+ghost use mathlib.Core.List.{_++_};
 ghost use mathlib.Core.Path.{_≡_};
 use super::lines::Line;
 
@@ -30,6 +31,29 @@ impl<L: Line> Batch<L> {
             held: [0; 32],
             count: 0,
         }
+    }
+
+    // Holds bytes behind those that are queued.
+    fn hold(&mut self, bytes: &[u8])
+        requires { ⌜ now self .count + length (now bytes) ≤ 32 ⌝ }
+        ensures queue { λ _. ⌜ behind (queue (now (self .exit) .below)) (now (self .exit) .held) (now (self .exit) .count) ≡ behind (queue (now (self .entry) .below)) (now (self .entry) .held) (now (self .entry) .count) ++ now (bytes .entry) ⌝ }
+        ensures below { λ _. ⌜ now (self .exit) .below ≡ now (self .entry) .below ⌝ }
+    {
+        let end = self.count + bytes.len();
+        self.held[self.count..end].copy_from_slice(bytes);
+        self.count = end;
+    }
+
+    // Offers the held bytes below, in one write. What is not taken stays held, in order; the line
+    // below has something queued then, if the batch had.
+    fn hand_down(&mut self)
+        ensures queue { λ _. ⌜ behind (queue (now (self .exit) .below)) (now (self .exit) .held) (now (self .exit) .count) ≡ behind (queue (now (self .entry) .below)) (now (self .entry) .held) (now (self .entry) .count) ⌝ }
+        ensures rises { λ _. ⌜ ready (now (self .entry) .below) ≤ ready (now (self .exit) .below) ⌝ }
+        ensures some { λ _. ⌜ (1 ≤ length (behind (queue (now (self .entry) .below)) (now (self .entry) .held) (now (self .entry) .count)) → 1 ≤ length (queue (now (self .exit) .below))) ⌝ }
+    {
+        let taken = self.below.write(&self.held[..self.count]);
+        self.held = moved_up(&self.held, taken, self.count);
+        self.count -= taken;
     }
 }
 
@@ -67,10 +91,8 @@ pub impl<L: Line> Line for Batch<L> as BatchLine {
     }
 
     fn write(&mut self, bytes: &[u8]) -> usize {
-        let taken = bytes.len().min(MOST - self.count);
-        self.held[self.count..self.count + taken]
-            .copy_from_slice(&bytes[0..taken]);
-        self.count += taken;
+        let taken = bytes.len().min(self.free());
+        self.hold(&bytes[0..taken]);
         taken
     }
 
@@ -78,11 +100,9 @@ pub impl<L: Line> Line for Batch<L> as BatchLine {
         self.below.read(into)
     }
 
-    // One write below; what the line below did not take stays held, in order.
+    // Also where nothing is held: the line below may hold bytes of its own.
     fn flush(&mut self) {
-        let taken = self.below.write(&self.held[..self.count]);
-        self.held = moved_up(&self.held, taken, self.count);
-        self.count -= taken;
+        self.hand_down();
         self.below.flush();
     }
 }

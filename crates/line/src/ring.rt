@@ -5,7 +5,8 @@ ghost use Rattle.fault.specs.declared.Refusal.the-variants.{Memory};
 ghost use Rattle.std.specs.Of.Vec.{vec-items, vec-len};
 ghost use Rattle.std.specs.Results.{Cases, isOk};
 ghost use Prim.Native.Nat.{_-_, _+_, _<_, _≤_};
-ghost use lib.ListN.{length};
+ghost use lib.ListN.{drop, length, take};
+ghost use mathlib.Core.List.{_++_};
 ghost use mathlib.Core.Path.{_≡_};
 use super::lines::Line;
 use fault::Refusal;
@@ -41,17 +42,44 @@ impl Ring {
         })
     }
 
-    // The place `by` bytes behind `from`, going round at the memory's end.
-    fn place(&self, from: usize, by: usize) -> usize
-        requires { ⌜ from < vec-len (now self .memory) ⌝ ∗ ⌜ by ≤ vec-len (now self .memory) ⌝ }
-        ensures below { λ r. ⌜ r < vec-len (now (self .entry) .memory) ⌝ }
-        ensures value { λ r. ⌜ r ≡ placeBehind (vec-len (now (self .entry) .memory)) from by ⌝ }
+    // The place `by` bytes behind the head, going round at the memory's end.
+    fn place(&self, by: usize) -> usize
+        requires { ⌜ by ≤ vec-len (now self .memory) ⌝ }
+        ensures { λ r. ⌜ r ≡ placeBehind (vec-len (now (self .entry) .memory)) (now (self .entry) .head) by ⌝ }
     {
-        let to = from + by;
+        let to = self.head + by;
         if to < self.memory.len() {
             return to;
         }
         to - self.memory.len()
+    }
+
+    // Puts bytes behind those that are queued.
+    fn append(&mut self, bytes: &[u8])
+        requires { ⌜ now self .used + length (now bytes) ≤ vec-len (now self .memory) ⌝ }
+        ensures queue { λ _. ⌜ around (vec-items (now (self .exit) .memory)) (now (self .exit) .head) (now (self .exit) .used) ≡ around (vec-items (now (self .entry) .memory)) (now (self .entry) .head) (now (self .entry) .used) ++ now (bytes .entry) ⌝ }
+        ensures used { λ _. ⌜ now (self .exit) .used ≡ now (self .entry) .used + length (now (bytes .entry)) ⌝ }
+    {
+        let tail = self.place(self.used);
+        store(&mut self.memory, tail, bytes);
+        self.used += bytes.len();
+    }
+
+    // The oldest bytes, as many as `into` has room for.
+    fn copy_to(&self, into: &mut [u8])
+        requires { ⌜ length (now into) ≤ now self .used ⌝ }
+        ensures { λ _. ⌜ now (into .exit) ≡ take (length (now (into .entry))) (around (vec-items (now (self .entry) .memory)) (now (self .entry) .head) (now (self .entry) .used)) ⌝ }
+    {
+        load(&self.memory, self.head, into);
+    }
+
+    // Lets the oldest bytes go.
+    fn skip(&mut self, count: usize)
+        requires { ⌜ count ≤ now self .used ⌝ }
+        ensures { λ _. ⌜ around (vec-items (now (self .exit) .memory)) (now (self .exit) .head) (now (self .exit) .used) ≡ drop count (around (vec-items (now (self .entry) .memory)) (now (self .entry) .head) (now (self .entry) .used)) ⌝ }
+    {
+        self.head = self.place(count);
+        self.used -= count;
     }
 }
 
@@ -90,7 +118,7 @@ pub impl Line for Ring as RingLine {
     ghost opens = { λ s. around-opens (vec-items (s .memory)) (s .head) (s .used) (vec-len (s .memory)) (s .memory .ok .0) (s .inside) (s .fits) };
 
     fn queued(&self) -> usize {
-        self.used
+        self.readable()
     }
 
     fn readable(&self) -> usize {
@@ -102,18 +130,15 @@ pub impl Line for Ring as RingLine {
     }
 
     fn write(&mut self, bytes: &[u8]) -> usize {
-        let taken = bytes.len().min(self.memory.len() - self.used);
-        let tail = self.place(self.head, self.used);
-        store(&mut self.memory, tail, &bytes[0..taken]);
-        self.used += taken;
+        let taken = bytes.len().min(self.free());
+        self.append(&bytes[0..taken]);
         taken
     }
 
     fn read(&mut self, into: &mut [u8]) -> usize {
         let given = into.len().min(self.used);
-        load(&self.memory, self.head, &mut into[0..given]);
-        self.head = self.place(self.head, given);
-        self.used -= given;
+        self.copy_to(&mut into[0..given]);
+        self.skip(given);
         given
     }
 

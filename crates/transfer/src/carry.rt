@@ -33,8 +33,22 @@ fn round<L: Line>(line: &mut L, bytes: &[u8], into: &mut [u8], trip: Trip) -> Tr
     }
 }
 
-// Carries `bytes` over a line that is empty to the start of `into`, and answers how many rounds it
-// took.
+// Makes rounds until all of the bytes have arrived, and answers how many.
+fn travel<L: Line>(line: &mut L, bytes: &[u8], into: &mut [u8]) -> usize
+    requires memory { ⌜ length (now bytes) ≤ length (now into) ⌝ }
+    requires idle { ⌜ length (queue (now line)) ≡ 0 ⌝ }
+    ensures { λ r. ⌜ Carried r (now (bytes .entry)) (now (into .entry)) (now (into .exit)) (seen queue ready room (now (line .entry))) (seen queue ready room (now (line .exit))) ⌝ }
+{
+    let mut trip = Trip { sent: 0, got: 0 };
+    let mut rounds = 0;
+    while trip.got < bytes.len() {
+        trip = round(line, bytes, into, trip);
+        rounds += 1;
+    }
+    rounds
+}
+
+// Carries `bytes` over a line that is empty to the start of `into`, and answers in how many rounds.
 pub fn carry<L: Line>(line: &mut L, bytes: &[u8], into: &mut [u8]) -> Result<usize, Refusal>
     ensures refused { λ r. ⌜ errPart r ≡ carryRefusal (now (bytes .entry)) (now (into .entry)) (queue (now (line .entry))) ⌝ }
     ensures cases { λ r. ⌜ Cases r (λ rounds. Carried rounds (now (bytes .entry)) (now (into .entry)) (now (into .exit)) (seen queue ready room (now (line .entry))) (seen queue ready room (now (line .exit)))) (λ _. (now (into .exit) ≡ now (into .entry)) × (now (line .exit) ≡ now (line .entry))) ⌝ }
@@ -45,11 +59,5 @@ pub fn carry<L: Line>(line: &mut L, bytes: &[u8], into: &mut [u8]) -> Result<usi
     if line.queued() > 0 {
         return Err(Refusal::Waiting);
     }
-    let mut trip = Trip { sent: 0, got: 0 };
-    let mut rounds = 0;
-    while trip.got < bytes.len() {
-        trip = round(line, bytes, into, trip);
-        rounds += 1;
-    }
-    Ok(rounds)
+    Ok(travel(line, bytes, into))
 }

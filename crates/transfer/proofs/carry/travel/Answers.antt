@@ -1,14 +1,13 @@
 use native.Mathlib.Omega.{arith}
 use Rattle.std.proofs.shelf.Lists.{nil-from-length}
-use Rattle.std.proofs.shelf.Ways.{tells}
 use Rattle.line.specs.Rules.{seen}
 use Rattle.transfer.proofs.Travels.{setting-out, onward, arrived}
-use Rattle.transfer.proofs.carry.carry.Needs as need
+use Rattle.transfer.proofs.carry.travel.Needs as need
 
 pub loop-trip-holds : need.loop-trip-holds
 loop-trip-holds g c =
     let state = seen (g .L·Line .queue) (g .L·Line .ready) (g .L·Line .room) in
-    setting-out (c .args .bytes .now) (c .args .into .now) (state (c .args .line .now)) (nil-from-length (g .L·Line .queue (c .args .line .now)) (omega arith))
+    setting-out (c .args .bytes .now) (c .args .into .now) (state (c .args .line .now)) (nil-from-length (g .L·Line .queue (c .args .line .now)) (c .pre .idle))
 
 pub loop-trip-less : need.loop-trip-less
 loop-trip-less g c =
@@ -19,4 +18,4 @@ pub loop-trip-again : need.loop-trip-again
 loop-trip-again g c = onward (omega arith) (omega arith) (g .L·Line .opens (c .loop-trip .line)) (c .loop-trip .inv) (c .round-trip .ensures) .0
 
 pub returns : need.returns
-returns g c = record { refused = grind (arith, tells); cases = arrived (omega arith) (c .loop-trip .inv) }
+returns g c = arrived (omega arith) (c .loop-trip .inv)

@@ -5,7 +5,7 @@ use native.Mathlib.Omega.{arith}
 use lib.ListN.{length, take, drop}
 use Rattle.std.proofs.shelf.Lists.{append-assoc, take-append-drop, length-append, length-take-le}
 use Rattle.std.proofs.shelf.Parts.{between-is}
-use Rattle.line.proofs.batch.BatchLine.flush.Needs as need
+use Rattle.line.proofs.batch.Batch.hand_down.Needs as need
 
 -- What was taken below and what is still held are together what was held. Where anything is queued,
 -- something is queued below after the write: it was there, or the empty line below took a byte.
@@ -23,10 +23,10 @@ returns g c =
     let opens = g .L·Line .opens (s .below) in
     let long : length q₁ ≡ length q + t = ap length wrote ∙ length-append q (take t h) ∙ ap (λ n. length q + n) (length-take-le t h le) in
     record {
-      queued = ap (λ x. x ++ take (s .count - t) (c .moved-up-self .result)) (c .flush .ensures .queued ∙ wrote)
+      queue = ap (λ x. x ++ take (s .count - t) (c .moved-up-self .result)) wrote
           ∙ ap (λ x. (q ++ take t h) ++ x) (c .moved-up-self .ensures ∙ between-is (s .held) t (s .count))
           ∙ append-assoc q (take t h) (drop t h)
           ∙ ap (λ x. q ++ x) (take-append-drop t h);
-      rises = omega arith;
-      wakes = λ e. c .flush .ensures .wakes (grind (arith, length-append q h));
+      rises = c .write-taken .ensures .rises;
+      some = λ e. grind (arith, length-append q h);
     }

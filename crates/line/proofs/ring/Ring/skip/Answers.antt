@@ -1,0 +1,17 @@
+use mathlib.Core.Path.{_≡_, ap, _∙_}
+use Prim.Native.Nat.{_-_}
+use native.Mathlib.Omega.{arith}
+use lib.ListN.{length}
+use Rattle.std.specs.Of.Vec.{vec-items, vec-len}
+use Rattle.line.specs.Queues.{around, placeBehind}
+use Rattle.line.proofs.Around.{around-rest}
+use Rattle.line.proofs.ring.Ring.skip.Needs as need
+
+pub returns : need.returns
+returns c =
+    let s = c .args .self .now in
+    let m = vec-items (s .memory) in
+    let n = c .args .count in
+    let size : vec-len (s .memory) ≡ length m = omega arith in
+    ap (λ z. around m z (s .used - n)) (c .place-self .ensures ∙ ap (λ z. placeBehind z (s .head) n) size)
+    ∙ around-rest m (s .head) (s .used) n (omega arith) (omega arith) (omega arith)
