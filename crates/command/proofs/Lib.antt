@@ -1,0 +1,2 @@
+pub mod Forms
+mod Unambiguous

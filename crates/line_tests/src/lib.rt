@@ -1,0 +1,3 @@
+// Examples of what lines do, and of what goes wrong where a flush is left out.
+#[cfg(test)]
+mod examples;
