@@ -1,2 +1,3 @@
-pub mod Pairs
 pub mod Numbers
+pub mod Pairs
+pub mod Printed

@@ -30,6 +30,13 @@ pub fn hex(heap: Global, bytes: &[u8]) -> Result<String, AllocError>
     hex_pairs(heap, bytes)
 }
 
+// The number as the console writes it.
+pub fn number(heap: Global, n: usize) -> Result<String, AllocError>
+    ensures { λ r. ⌜ made r (λ s. string-bytes s ≡ decimal n) ⌝ }
+{
+    n.to_string(heap)
+}
+
 // Two digits to a byte. The text grows in place, since all its room is asked for at once.
 fn hex_pairs(heap: Global, bytes: &[u8]) -> Result<String, AllocError>
     ensures { λ r. ⌜ made r (λ s. string-bytes s ≡ hexPairs (now (bytes .entry))) ⌝ }
