@@ -82,15 +82,15 @@ stored m bs x y at run a l e p q =
     let size : length (copied m at run bs) ≡ c = grind (arith, places) in (
       ap length is ∙ size,
       λ h u k f t.
-      let ends : length (around m h u) ≡ u = length-around m h u (omega arith) in
-      let long : length (around (copied m at run bs) h (u + n)) ≡ u + n = length-around (copied m at run bs) h (u + n) (omega arith) in
-      ap (λ z. around z h (u + n)) is
-      ∙ same-lists _ _
-      (omega (arith, length-append (around m h u) bs))
-      (λ i d v.
-      getD-around (copied m at run bs) h (u + n) i d (omega arith) (omega arith) (omega arith)
-      ∙ ap (λ z. getD (copied m at run bs) (placeBehind z h i) d) size
-      ∙ kept-or-new m bs at run h u i d e k f t (omega arith)),
+          let ends : length (around m h u) ≡ u = length-around m h u (omega arith) in
+          let long : length (around (copied m at run bs) h (u + n)) ≡ u + n = length-around (copied m at run bs) h (u + n) (omega arith) in
+          ap (λ z. around z h (u + n)) is
+          ∙ same-lists _ _
+          (omega (arith, length-append (around m h u) bs))
+          (λ i d v.
+          getD-around (copied m at run bs) h (u + n) i d (omega arith) (omega arith) (omega arith)
+          ∙ ap (λ z. getD (copied m at run bs) (placeBehind z h i) d) size
+          ∙ kept-or-new m bs at run h u i d e k f t (omega arith)),
     )
 
 -- the ring's first bytes, and what is left when they are gone

@@ -9,7 +9,7 @@ use lib.ListN.{length, take, drop}
 use lib.Seq.{take-add}
 use Rattle.std.proofs.shelf.Lists.{append-assoc, append-nil, drop-all, drop-append-le, drop-at, drop-drop, length-append, length-drop, length-take, length-take-le, nil-from-length, take-all, take-append-drop, take-append-le, take-at, take-rest, same-lists, places}
 use Rattle.line.specs.Rules.{State, Within, Opens, Wrote, Read, Flushed}
-use Rattle.transfer.specs.Runs.{Received}
+use Rattle.transfer.specs.Runs.{Ran, Received, write, flush, took, done}
 use Rattle.transfer.specs.Rounds.{Round, Rounds, Advanced, Carried}
 
 -- How far a line has come: it has taken `sent` of the bytes and given `got` of those, which lie at
@@ -31,23 +31,26 @@ placed into q part got end n a b l e =
     let rest : drop n (take k x) ++ drop k x ≡ drop (got + n) into = sym (drop-append-le n (take k x) (drop k x) long) ∙ ap (drop n) (take-append-drop k x) ∙ drop-drop n got into in
     ap (λ z. take got into ++ (z ++ drop k x)) e ∙ ap (λ z. take got into ++ z) (append-assoc (take n q) (drop n (take k x)) (drop k x) ∙ ap (λ z. take n q ++ z) rest)
 
--- a write, a flush and a read are a round
+-- a write and a flush, and then a read, are a round
 pub advanced :
-    (bytes into part : List ℕ) (sent got taken n : ℕ) (s m o t : State) → got ≤ length bytes → length bytes ≤ length into → Wrote (take (length bytes - sent) (drop sent bytes)) taken s m
-    → Flushed m o → Within (o .queue) (o .ready) → Read (take (length bytes - got) (drop got into)) n part o t
+    (bytes into part : List ℕ) (sent got taken n : ℕ) (s o t : State) → got ≤ length bytes → length bytes ≤ length into
+    → Ran (write (take (length bytes - sent) (drop sent bytes)) ∷ flush ∷ []) (took taken ∷ done ∷ []) s o
+    → Within (o .queue) (o .ready) → Read (take (length bytes - got) (drop got into)) n part o t
     → Advanced bytes sent got (sent + taken) (got + n) into (putMid got (length bytes - got) into part) s t
-advanced bytes into part sent got taken n s m o t a b w f l r =
+advanced bytes into part sent got taken n s o t a b w l r =
     let k = length bytes - got in
     let part-long : length (take k (drop got into)) ≡ k = simp (length-take, length-drop) (omega arith) in
     let count : n ≡ min k (o .ready) = r .count ∙ ap (λ z. min z (o .ready)) part-long in
     let new = take n (o .queue) in
     let long : length new ≡ n = length-take-le n (o .queue) (omega arith) in
-    let wrote : Wrote (drop sent bytes) taken s m = subst (λ (z : List ℕ). Wrote z taken s m) (take-rest bytes sent) w in
+    let m = w .0 in
+    let wrote : Wrote (drop sent bytes) taken s m = subst (λ (z : List ℕ). Wrote z taken s m) (take-rest bytes sent) (w .1) in
+    let flushed : Flushed m o = subst (λ (z : State). Flushed m z) (w .2 .2) (w .2 .1) in
     let got-new : Received k new o t = record { count = long ∙ count; split = sym (take-append-drop n (o .queue)) ∙ ap (λ z. new ++ z) (sym (r .queued)) } in
     record {
       taken = taken;
       new = new;
-      round = (m, wrote, (o, f, (t, got-new, refl)));
+      round = (m, wrote, (o, flushed, (t, got-new, refl)));
       sent-is = refl;
       got-is = ap (λ z. got + z) (sym long);
       into-is = placed into (o .queue) part got (length bytes) n b a (omega arith) (r .moved);
@@ -153,9 +156,9 @@ onward {bytes} {into₀} {into} {into′} {s₀} {s} {t} {sent} {got} {sent′} 
         underway = on .0;
         few = omega arith;
         history = λ n z h.
-        let rest : Rounds n bytes (sent + v .taken) (got + length (v .new)) t z =
-        subst (λ (k : ℕ). Rounds n bytes (sent + v .taken) k t z) (v .got-is) (subst (λ (k : ℕ). Rounds n bytes k got′ t z) (v .sent-is) h) in
-        subst (λ (k : ℕ). Rounds k bytes 0 0 s₀ z) (omega arith) (w .history (suc n) z (l, v .taken, v .new, t, v .round, rest));
+            let rest : Rounds n bytes (sent + v .taken) (got + length (v .new)) t z =
+            subst (λ (k : ℕ). Rounds n bytes (sent + v .taken) k t z) (v .got-is) (subst (λ (k : ℕ). Rounds n bytes k got′ t z) (v .sent-is) h) in
+            subst (λ (k : ℕ). Rounds k bytes 0 0 s₀ z) (omega arith) (w .history (suc n) z (l, v .taken, v .new, t, v .round, rest));
       },
       further,
     )

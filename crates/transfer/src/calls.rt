@@ -51,7 +51,11 @@ fn make<L: Line>(heap: Global, line: &mut L, call: &Call) -> Result<Answer, Allo
 
 // Makes the calls in their order, and gives their answers. Where memory runs out, the calls from
 // some place on are not made.
-pub fn converse<L: Line>(heap: Global, line: &mut L, calls: &[Call]) -> Result<Vec<Answer>, AllocError>
+pub fn converse<L: Line>(
+    heap: Global,
+    line: &mut L,
+    calls: &[Call],
+) -> Result<Vec<Answer>, AllocError>
     ensures ran { λ r. ⌜ Cases r (λ v. Ran (map act (now (calls .entry))) (map reply (vec-items v)) (seen queue ready room (now (line .entry))) (seen queue ready room (now (line .exit)))) (λ _. Stopped (map act (now (calls .entry))) (seen queue ready room (now (line .entry))) (seen queue ready room (now (line .exit)))) ⌝ }
     ensures conserved { λ r. ⌜ made r (λ v. Conserved (map act (now (calls .entry))) (map reply (vec-items v)) (seen queue ready room (now (line .entry))) (seen queue ready room (now (line .exit)))) ⌝ }
 {

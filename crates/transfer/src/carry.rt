@@ -1,9 +1,11 @@
 // A byte string from one end of a line to the other.
 ghost use Rattle.line.specs.Rules.{seen};
 ghost use Rattle.transfer.specs.Rounds.{Advanced, Carried, carryRefusal};
+ghost use Rattle.transfer.specs.Runs.{Ran, done, flush, took, write};
 ghost use Rattle.std.specs.Results.{Cases, errPart};
 ghost use Prim.Native.Nat.{_≤_};
 ghost use lib.ListN.{length};
+ghost use mathlib.Core.List.{[], _∷_};
 ghost use mathlib.Core.Path.{_≡_};
 use fault::Refusal;
 use line::lines::Line;
@@ -15,6 +17,15 @@ struct Trip {
     got: usize,
 }
 
+// Writes bytes and flushes, also where none of them was taken; answers how many were.
+fn send<L: Line>(line: &mut L, bytes: &[u8]) -> usize
+    ensures { λ r. ⌜ Ran (write (now (bytes .entry)) ∷ flush ∷ []) (took r ∷ done ∷ []) (seen queue ready room (now (line .entry))) (seen queue ready room (now (line .exit))) ⌝ }
+{
+    let taken = line.write(bytes);
+    line.flush();
+    taken
+}
+
 // One round: writes what is not yet taken, flushes, and reads what has not yet arrived.
 fn round<L: Line>(line: &mut L, bytes: &[u8], into: &mut [u8], trip: Trip) -> Trip
     requires sent { ⌜ trip .sent ≤ length (now bytes) ⌝ }
@@ -24,8 +35,7 @@ fn round<L: Line>(line: &mut L, bytes: &[u8], into: &mut [u8], trip: Trip) -> Tr
 {
     let Trip { sent, got } = trip;
     let end = bytes.len();
-    let taken = line.write(&bytes[sent..]);
-    line.flush();
+    let taken = send(line, &bytes[sent..]);
     let given = line.read(&mut into[got..end]);
     Trip {
         sent: sent + taken,

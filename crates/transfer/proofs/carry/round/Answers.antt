@@ -6,10 +6,9 @@ pub returns : need.returns
 returns g c =
     let state = seen (g .L·Line .queue) (g .L·Line .ready) (g .L·Line .room) in
     let trip = c .args .trip in
-    advanced (c .args .bytes .now) (c .args .into .now) (c .read-given .last .into) (trip .sent) (trip .got) (c .write-taken .result) (c .read-given .result) (state (c .args .line .now)) (state (c .write-taken .last .self)) (state (c .flush .last .self)) (state (c .read-given .last .self))
+    advanced (c .args .bytes .now) (c .args .into .now) (c .read-given .last .into) (trip .sent) (trip .got) (c .send-taken .result) (c .read-given .result) (state (c .args .line .now)) (state (c .send-taken .last .line)) (state (c .read-given .last .self))
     (c .pre .got)
     (c .pre .memory)
-    (c .write-taken .ensures)
-    (c .flush .ensures)
-    (g .L·Line .within (c .flush .last .self))
+    (c .send-taken .ensures)
+    (g .L·Line .within (c .send-taken .last .line))
     (c .read-given .ensures)
