@@ -1,17 +1,17 @@
 // The line that commands are about: none at first.
 use command::Command;
 use command::Kind;
-use line::batch::Batch;
-use line::batch::BatchLine;
-use line::ring::Ring;
-use line::ring::RingLine;
+use line::Batch;
+use line::BatchLine;
+use line::Ring;
+use line::RingLine;
 use session::Reply;
 use session::Request;
 use session::respond;
 use session::say;
 use std::alloc::AllocError;
 use std::alloc::Global;
-use transfer::calls::Call;
+use transfer::Call;
 
 #[derive(Drop)]
 pub enum Site {
@@ -44,7 +44,7 @@ impl Site {
     // Lays a new line over a ring of `size` bytes. Where the ring is refused, the line before stays.
     fn lay(&mut self, heap: Global, kind: Kind, size: usize) -> Result<String, AllocError> {
         // One byte more than a ring takes is enough to have it refused.
-        let memory = vec![in heap; 0; size.min(65537)]?;
+        let memory = vec![in heap; 0; size.min(Ring::MOST + 1)]?;
         let ring = match Ring::new(memory) {
             Ok(ring) => ring,
             Err(rejected) => return say(heap, &Reply::Refused(rejected.refusal)),

@@ -14,7 +14,7 @@ const MOST: usize = 32;
 #[derive(Drop)]
 pub struct Batch<L> {
     below: L,
-    held: [u8; 32],
+    held: [u8; MOST],
     count: usize,
     ghost size: { length held ≡ 32 },
     ghost fits: { count ≤ 32 },
@@ -28,7 +28,7 @@ impl<L: Line> Batch<L> {
     {
         Batch {
             below,
-            held: [0; 32],
+            held: [0; MOST],
             count: 0,
         }
     }
@@ -58,11 +58,11 @@ impl<L: Line> Batch<L> {
 }
 
 // An array that begins with the bytes `from..to` of `held`.
-fn moved_up(held: &[u8], from: usize, to: usize) -> [u8; 32]
+fn moved_up(held: &[u8], from: usize, to: usize) -> [u8; MOST]
     requires { ⌜ from ≤ to ⌝ ∗ ⌜ to ≤ length (now held) ⌝ ∗ ⌜ to ≤ 32 ⌝ }
     ensures { λ r. ⌜ take (to - from) r ≡ take (to - from) (drop from (now (held .entry))) ⌝ }
 {
-    let mut kept = [0; 32];
+    let mut kept = [0; MOST];
     kept[0..to - from].copy_from_slice(&held[from..to]);
     kept
 }

@@ -24,12 +24,15 @@ pub struct Ring {
 }
 
 impl Ring {
+    // The largest memory that a ring takes.
+    pub const MOST: usize = 65536;
+
     // An empty ring over memory of 1 to 65,536 bytes; any other memory is handed back.
     pub fn new(memory: Vec<u8>) -> Result<Ring, Rejected<Vec<u8>>>
         ensures test { λ r. ⌜ isOk r ≡ ringSize (vec-len memory) ⌝ }
         ensures cases { λ r. ⌜ Cases r (λ s. (s .memory ≡ memory) × (s .head ≡ 0) × (s .used ≡ 0)) (λ e. (e .refusal ≡ Memory) × (e .value ≡ memory)) ⌝ }
     {
-        if memory.len() < 1 || memory.len() > 65536 {
+        if memory.len() < 1 || memory.len() > Self::MOST {
             return Err(Rejected {
                 refusal: Refusal::Memory,
                 value: memory,

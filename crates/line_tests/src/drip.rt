@@ -5,13 +5,13 @@ ghost use Rattle.line_tests.specs.Drips.{drip-opens, drip-within};
 ghost use Prim.Native.Nat.{min};
 ghost use mathlib.Core.Bool.{cond};
 ghost use mathlib.Core.Path.{_≡_};
-use line::batch::Batch;
-use line::batch::BatchLine;
-use line::lines::Line;
-use line::ring::Ring;
-use line::ring::RingLine;
+use line::Batch;
+use line::BatchLine;
+use line::Line;
+use line::Ring;
+use line::RingLine;
 use std::test::*;
-use transfer::carry::carry;
+use transfer::carry;
 
 #[derive(Drop)]
 struct Drip<L> {

@@ -1,17 +1,17 @@
 use fault::Refusal;
 use fault::RefusalPartialEq;
 use fault::Rejected;
-use line::batch::Batch;
-use line::batch::BatchLine;
-use line::lines::Line;
-use line::ring::Ring;
-use line::ring::RingLine;
+use line::Batch;
+use line::BatchLine;
+use line::Line;
+use line::Ring;
+use line::RingLine;
 use std::alloc::Global;
 use std::test::*;
-use transfer::calls::Answer;
-use transfer::calls::Call;
-use transfer::calls::converse;
-use transfer::carry::carry;
+use transfer::Answer;
+use transfer::Call;
+use transfer::carry;
+use transfer::converse;
 
 // A ring over memory of that many bytes.
 fn ring(heap: Global, size: usize) -> Result<Ring, Fail> {

@@ -7,15 +7,15 @@ ghost use Rattle.std.specs.Results.{Cases};
 ghost use Rattle.std.specs.Vec.{made};
 ghost use mathlib.Core.Path.{_≡_};
 use fault::Refusal;
-use line::lines::Line;
+use line::Line;
 use notation::hex;
 use notation::number;
 use std::alloc::AllocError;
 use std::alloc::Global;
-use transfer::calls::Answer;
-use transfer::calls::Call;
-use transfer::calls::converse;
-use transfer::carry::carry;
+use transfer::Answer;
+use transfer::Call;
+use transfer::carry;
+use transfer::converse;
 
 #[derive(Drop)]
 pub enum Request {

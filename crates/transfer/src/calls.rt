@@ -6,7 +6,7 @@ ghost use Rattle.std.specs.Results.{Cases};
 ghost use Rattle.std.specs.Vec.{made};
 ghost use mathlib.Core.List.{map};
 ghost use mathlib.Core.Path.{_≡_};
-use line::lines::Line;
+use line::Line;
 use std::alloc::AllocError;
 use std::alloc::Global;
 

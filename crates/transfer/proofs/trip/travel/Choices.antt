@@ -2,7 +2,7 @@ use Prim.Native.Nat.{_-_}
 use lib.ListN.{length}
 use Rattle.line.specs.Rules.{seen}
 use Rattle.transfer.proofs.Travels.{Travelling}
-use Rattle.transfer.proofs.carry.travel.Given as given
+use Rattle.transfer.proofs.trip.travel.Given as given
 
 abbrev pub Inv-loop-trip : given.InvT-loop-trip
 Inv-loop-trip g l =

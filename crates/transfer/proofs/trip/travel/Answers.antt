@@ -2,7 +2,7 @@ use native.Mathlib.Omega.{arith}
 use Rattle.std.proofs.shelf.Lists.{nil-from-length}
 use Rattle.line.specs.Rules.{seen}
 use Rattle.transfer.proofs.Travels.{setting-out, onward, arrived}
-use Rattle.transfer.proofs.carry.travel.Needs as need
+use Rattle.transfer.proofs.trip.travel.Needs as need
 
 pub loop-trip-holds : need.loop-trip-holds
 loop-trip-holds g c =

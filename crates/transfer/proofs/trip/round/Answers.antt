@@ -1,6 +1,6 @@
 use Rattle.line.specs.Rules.{seen}
 use Rattle.transfer.proofs.Travels.{advanced}
-use Rattle.transfer.proofs.carry.round.Needs as need
+use Rattle.transfer.proofs.trip.round.Needs as need
 
 pub returns : need.returns
 returns g c =

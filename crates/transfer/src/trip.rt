@@ -8,7 +8,7 @@ ghost use lib.ListN.{length};
 ghost use mathlib.Core.List.{[], _∷_};
 ghost use mathlib.Core.Path.{_≡_};
 use fault::Refusal;
-use line::lines::Line;
+use line::Line;
 
 // How many bytes the line has taken so far, and how many of them it has given.
 #[derive(Clone, Copy)]
