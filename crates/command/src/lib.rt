@@ -166,7 +166,7 @@ pub fn parse(heap: Global, text: &[u8]) -> Result<Option<Command>, AllocError>
 }
 
 // A text spells at most one command.
-pub fn spellings_tell() -> u8
+pub fn one_meaning() -> u8
     ensures { λ _. ⌜ Unambiguous ⌝ }
 {
     0

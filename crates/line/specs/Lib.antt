@@ -1,2 +1,4 @@
-pub mod Rules
+pub mod Batches
 pub mod Queues
+pub mod Rings
+pub mod Rules

@@ -1,4 +1,4 @@
--- What a ring and a batch have queued, and that both keep the two standing rules.
+-- A ring's memory, and the bytes queued in it.
 use mathlib.Core.Path.{_≡_}
 use mathlib.Core.Bool.{Bool, cond, _&&_}
 use mathlib.Core.List.{List, _++_}
@@ -6,7 +6,6 @@ use Prim.Native.Nat.{ℕ, _+_, _-_, _<_, _≤_}
 use native.Mathlib.Omega.{arith}
 use lib.Dec.{leb, ltb}
 use lib.ListN.{length, take, drop, length-take, length-drop, length-append}
-use Rattle.line.specs.Rules.{Within, Opens}
 
 -- A ring's bytes: `used` of them, from the place `head` of its memory on, and from the start again
 -- where the memory ends.
@@ -30,19 +29,3 @@ Extended memory at bytes memory′ =
 
 pub length-around : (m : List ℕ) (h n : ℕ) → n ≤ length m → length (around m h n) ≡ n
 length-around m h n l = simp (length-take, length-append, length-drop) (omega arith)
-
-pub around-within : (m : List ℕ) (h n c : ℕ) → c ≡ length m → n ≤ c → Within (around m h n) n
-around-within m h n c e l = omega (arith, length-around m h n (omega arith))
-
-pub around-opens : (m : List ℕ) (h n c : ℕ) → c ≡ length m → h < c → n ≤ c → Opens (around m h n) (c - n)
-around-opens m h n c e k l = omega (arith, length-around m h n (omega arith))
-
--- A batch's bytes: what the line below has queued, and then those that the batch still holds.
-abbrev pub behind : List ℕ → List ℕ → ℕ → List ℕ
-behind below held count = below ++ take count held
-
-pub behind-within : (q h : List ℕ) (n r : ℕ) → Within q r → Within (behind q h n) r
-behind-within q h n r l = omega (arith, length-append q (take n h))
-
-pub behind-opens : (q h : List ℕ) (n c : ℕ) → length h ≡ c → n ≤ c → 1 ≤ c → Opens (behind q h n) (c - n)
-behind-opens q h n c e l k = omega (arith, length-append q (take n h), length-take n h)

@@ -5,6 +5,7 @@ ghost use Rattle.line_tests.specs.Drips.{drip-opens, drip-within};
 ghost use Prim.Native.Nat.{min};
 ghost use mathlib.Core.Bool.{cond};
 ghost use mathlib.Core.Path.{_≡_};
+use fault::RefusalPartialEq;
 use line::Batch;
 use line::BatchLine;
 use line::Line;

@@ -145,7 +145,7 @@ fn parse_digits(text: &[u8]) -> Option<usize>
 }
 
 // No two byte strings, and no two numbers, are written alike.
-pub fn spellings_tell() -> u8
+pub fn spellings_differ() -> u8
     ensures bytes { λ _. ⌜ Hex-tells ⌝ }
     ensures numbers { λ _. ⌜ Decimal-tells ⌝ }
 {

@@ -21,8 +21,5 @@ returns g c =
     let end = s .count + length new in
     let same : y ≡ new = c .copy-from-slice .ensures .after in
     let long : length y ≡ length new = ap length same in
-    record {
-      queue = ap (λ x. q ++ x) (take-putMid (s .count) (end - s .count) (s .held) y end (omega arith) (omega arith) ∙ ap (λ x. h ++ x) same)
-          ∙ sym (append-assoc q h new);
-      below = refl;
-    }
+    let held = take-putMid (s .count) (end - s .count) (s .held) y end (omega arith) (omega arith) ∙ ap (λ x. h ++ x) same in
+    record { held = held; queue = ap (λ x. q ++ x) held ∙ sym (append-assoc q h new); below = refl }

@@ -1,6 +1,6 @@
 use native.Mathlib.Omega.{arith}
 use Rattle.line.proofs.Around.{stored}
-use Rattle.line.proofs.ring.store.Needs as need
+use Rattle.line.proofs.ring.methods.store.Needs as need
 
 pub returns : need.returns
 returns c =

@@ -1,6 +1,6 @@
 use native.Mathlib.Omega.{arith}
 use Rattle.line.proofs.Around.{loaded}
-use Rattle.line.proofs.ring.load.Needs as need
+use Rattle.line.proofs.ring.methods.load.Needs as need
 
 pub returns : need.returns
 returns c =

@@ -1,5 +1,5 @@
 use Rattle.command.proofs.Unambiguous.{unambiguous}
-use Rattle.command.proofs.spellings_tell.Needs as need
+use Rattle.command.proofs.one_meaning.Needs as need
 
 pub returns : need.returns
 returns c = unambiguous
