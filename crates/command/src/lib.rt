@@ -140,8 +140,8 @@ fn carry(heap: Global, text: &[u8]) -> Result<Option<Command>, AllocError>
     }
 }
 
-// The command that the text spells, or `None` where it spells none.
-pub fn parse(heap: Global, text: &[u8]) -> Result<Option<Command>, AllocError>
+// Tries each form in turn.
+fn find(heap: Global, text: &[u8]) -> Result<Option<Command>, AllocError>
     ensures { λ r. ⌜ made r (λ o. BySome o ((c : Command) → Spells c (now (text .entry)) → ⊥) (λ c. Spells c (now (text .entry)))) ⌝ }
 {
     if let Some(c) = line(text) {
@@ -165,9 +165,10 @@ pub fn parse(heap: Global, text: &[u8]) -> Result<Option<Command>, AllocError>
     Ok(None)
 }
 
-// A text spells at most one command.
-pub fn one_meaning() -> u8
-    ensures { λ _. ⌜ Unambiguous ⌝ }
+// The command that the text spells, or `None` where it spells none. No text spells two.
+pub fn parse(heap: Global, text: &[u8]) -> Result<Option<Command>, AllocError>
+    ensures value { λ r. ⌜ made r (λ o. BySome o ((c : Command) → Spells c (now (text .entry)) → ⊥) (λ c. Spells c (now (text .entry)))) ⌝ }
+    ensures alone { λ _. ⌜ Unambiguous ⌝ }
 {
-    0
+    find(heap, text)
 }

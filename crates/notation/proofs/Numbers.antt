@@ -10,7 +10,7 @@ use Rattle.std.specs.shelf.Digits.{digitsOf, number, Under}
 use Rattle.std.proofs.shelf.Lists.{map-push, take-more, take-all}
 use Rattle.std.proofs.shelf.Tests.{cases-lt}
 use Rattle.std.proofs.shelf.Digits.{digitsOf-step, number-digitsOf, first-digitsOf, under-digitsOf}
-use Rattle.notation.specs.Decimal.{decimal, saturated, Decimal-tells}
+use Rattle.notation.specs.Decimal.{decimal, saturated}
 
 -- the digits of a number, none for 0
 abbrev pub digitsText : ℕ → List ℕ
@@ -45,7 +45,8 @@ pub undecimal-decimal : (n : ℕ) → undecimal (decimal n) ≡ n
 undecimal-decimal zero = refl
 undecimal-decimal (suc n) = ap (number 10) (lessened (digitsOf 10 (suc n))) ∙ number-digitsOf 10 (suc n) (omega arith)
 
-pub decimal-tells : Decimal-tells
+-- no two numbers are written alike
+pub decimal-tells : (m n : ℕ) → decimal m ≡ decimal n → m ≡ n
 decimal-tells m n e = sym (undecimal-decimal m) ∙ ap undecimal e ∙ undecimal-decimal n
 
 -- the first i digits of the text write some number, which is read as m

@@ -8,7 +8,7 @@ use lib.Dec.{ltb}
 use lib.ListN.{length, getD, take}
 use Rattle.std.proofs.shelf.Lists.{append-assoc, take-more, take-all}
 use Rattle.std.proofs.shelf.Ways.{tells}
-use Rattle.notation.specs.Hex.{Bytes, hexDigit, hexPairs, hexOf, Hex-tells}
+use Rattle.notation.specs.Hex.{Bytes, hexDigit, hexPairs, hexOf}
 
 pub pairs-append : (bs cs : List ℕ) → hexPairs (bs ++ cs) ≡ hexPairs bs ++ hexPairs cs
 pairs-append [] cs = refl
@@ -52,9 +52,6 @@ unhex-pairs (b ∷ bs) p =
 pub unhex-hexOf : (bs : List ℕ) → Bytes bs → unhex (hexOf bs) ≡ bs
 unhex-hexOf [] p = refl
 unhex-hexOf (b ∷ bs) p = unhex-pairs (b ∷ bs) p
-
-pub hex-tells : Hex-tells
-hex-tells bs cs p q e = sym (unhex-hexOf bs p) ∙ ap unhex e ∙ unhex-hexOf cs q
 
 -- where no byte's digits stand at a place, no bytes are written so
 pub no-pair : (text bs : List ℕ) (i : ℕ) → 2 * i + 1 < length text → ((b : ℕ) → b < 256 → getD text (2 * i) 0 ≡ hexDigit (b / 16) → getD text (2 * i + 1) 0 ≡ hexDigit (b % 16) → ⊥) → Bytes bs → text ≡ hexPairs bs → ⊥

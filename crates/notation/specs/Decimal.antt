@@ -1,6 +1,5 @@
 -- How the console writes numbers: in decimal digits, with no leading zero.
 use mathlib.Core.List.{List, map}
-use mathlib.Core.Path.{_≡_}
 use Prim.Native.Nat.{ℕ, zero, suc, min, _+_, _-_, _^_}
 use lib.Chars.{codes}
 use Rattle.std.specs.shelf.Digits.{digitsOf}
@@ -13,7 +12,3 @@ decimal (suc n) = map (λ d. 48 + d) (digitsOf 10 (suc n))
 -- the largest number that a machine word holds stands for each one above it
 abbrev pub saturated : ℕ → ℕ
 saturated n = min n (2 ^ 64 - 1)
-
--- no two numbers are written alike
-abbrev pub Decimal-tells : Type 0
-Decimal-tells = (m n : ℕ) → decimal m ≡ decimal n → m ≡ n

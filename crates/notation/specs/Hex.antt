@@ -1,7 +1,6 @@
 -- How the console writes bytes: each as two upper-case hexadecimal digits, the high one first, and no bytes at all as `-`.
 use mathlib.Core.Bool.{cond}
 use mathlib.Core.List.{List, [], _∷_}
-use mathlib.Core.Path.{_≡_}
 use Prim.Native.Nat.{ℕ, _+_, _/_, _%_, _<_}
 use lib.Chars.{codes}
 use lib.Dec.{ltb}
@@ -22,7 +21,3 @@ hexPairs (b ∷ bs) = hexDigit (b / 16) ∷ hexDigit (b % 16) ∷ hexPairs bs
 abbrev pub hexOf : List ℕ → List ℕ
 hexOf [] = codes "-"
 hexOf (b ∷ bs) = hexPairs (b ∷ bs)
-
--- no two byte strings are written alike
-abbrev pub Hex-tells : Type 0
-Hex-tells = (bs cs : List ℕ) → Bytes bs → Bytes cs → hexOf bs ≡ hexOf cs → bs ≡ cs

@@ -8,8 +8,8 @@ ghost use Rattle.std.specs.Of.Vec.{vec-items};
 ghost use Rattle.std.specs.Options.{Cases as BySome};
 ghost use Rattle.std.specs.Orderings.{Decides};
 ghost use Rattle.std.specs.Vec.{made};
-ghost use Rattle.notation.specs.Decimal.{decimal, saturated, Decimal-tells};
-ghost use Rattle.notation.specs.Hex.{Bytes, hexDigit, hexPairs, hexOf, Hex-tells};
+ghost use Rattle.notation.specs.Decimal.{decimal, saturated};
+ghost use Rattle.notation.specs.Hex.{Bytes, hexDigit, hexPairs, hexOf};
 use std::alloc::AllocError;
 use std::alloc::Global;
 
@@ -142,12 +142,4 @@ fn parse_digits(text: &[u8]) -> Option<usize>
             .saturating_add((*code - b'0') as usize);
     }
     Some(number)
-}
-
-// No two byte strings, and no two numbers, are written alike.
-pub fn spellings_differ() -> u8
-    ensures bytes { λ _. ⌜ Hex-tells ⌝ }
-    ensures numbers { λ _. ⌜ Decimal-tells ⌝ }
-{
-    0
 }

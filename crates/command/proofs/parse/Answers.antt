@@ -1,6 +1,5 @@
-use borrow.Author.Needs.{needs}
-use Rattle.command.proofs.Forms.{no-command}
+use Rattle.command.proofs.Unambiguous.{unambiguous}
 use Rattle.command.proofs.parse.Needs as need
 
 pub returns : need.returns
-returns c = search (needs, no-command (c .args .text .now))
+returns c = record { value = c .find .ensures; alone = unambiguous }
