@@ -4,8 +4,9 @@ use mathlib.Core.Path.{_≡_}
 use Prim.Native.Nat.{ℕ}
 use Rattle.std.specs.Of.Vec.{vec-items}
 use Rattle.command.specs.Grammar.{Spells}
+use Rattle.pixel.specs.declared.Format.{Format}
 use Rattle.command.specs.declared.Command.{Command}
-use Rattle.command.specs.declared.Command.the-variants.{Line, Write, Read, Flush, Queue, Carry}
+use Rattle.command.specs.declared.Command.the-variants.{Line, Write, Read, Flush, Queue, Carry, Pixel, Describe, Recognize}
 use Rattle.command.specs.declared.Kind.{Kind}
 
 pub data Meaning : Type 0 where
@@ -15,6 +16,9 @@ pub data Meaning : Type 0 where
   flush : Meaning
   queue : Meaning
   carry : List ℕ → Meaning
+  pixel : Format → ℕ → Meaning
+  describe : Format → Meaning
+  recognize : List ℕ → Meaning
 
 abbrev pub meaning : Command → Meaning
 meaning (Line kind n) = line kind n
@@ -23,6 +27,9 @@ meaning (Read n) = read n
 meaning Flush = flush
 meaning Queue = queue
 meaning (Carry v) = carry (vec-items v)
+meaning (Pixel format v) = pixel format v
+meaning (Describe format) = describe format
+meaning (Recognize v) = recognize (vec-items v)
 
 abbrev pub Unambiguous : Type 0
 Unambiguous = (c d : Command) (text : List ℕ) → Spells c text → Spells d text → meaning c ≡ meaning d

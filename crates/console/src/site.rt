@@ -9,6 +9,9 @@ use session::Reply;
 use session::Request;
 use session::respond;
 use session::say;
+use session::say_description;
+use session::say_format;
+use session::say_pixel;
 use std::alloc::AllocError;
 use std::alloc::Global;
 use transfer::Call;
@@ -31,6 +34,9 @@ impl Site {
             Command::Flush => Request::Make(Call::Flush),
             Command::Queue => Request::Queue,
             Command::Carry(bytes) => Request::Carry(bytes),
+            Command::Pixel(format, native) => return say_pixel(heap, format, native),
+            Command::Describe(format) => return say_description(heap, format),
+            Command::Recognize(bytes) => return say_format(heap, &bytes),
         };
         let reply = match self {
             Site::Bare => return String::from_str(heap, "no line"),

@@ -9,9 +9,23 @@ ghost use Rattle.std.specs.Options.{Cases as BySome};
 ghost use Rattle.std.specs.Orderings.{Decides};
 ghost use Rattle.std.specs.Vec.{made};
 ghost use Rattle.notation.specs.Decimal.{decimal, saturated};
+ghost use Rattle.notation.specs.Formats.{nameOf};
 ghost use Rattle.notation.specs.Hex.{Bytes, hexDigit, hexPairs, hexOf};
+use pixel::Format;
 use std::alloc::AllocError;
 use std::alloc::Global;
+
+// The word for a format, or for none.
+pub fn format_name(format: Option<Format>) -> &'static str
+    ensures { λ r. ⌜ now r ≡ nameOf format ⌝ }
+{
+    match format {
+        Some(Format::Native) => "native",
+        Some(Format::Little) => "little",
+        Some(Format::Big) => "big",
+        None => "unknown",
+    }
+}
 
 // The text is the word.
 pub fn is_word(text: &[u8], word: &[u8]) -> bool

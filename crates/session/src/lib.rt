@@ -6,10 +6,16 @@ ghost use Rattle.std.specs.Of.String.{string-bytes};
 ghost use Rattle.std.specs.Results.{Cases};
 ghost use Rattle.std.specs.Vec.{made};
 ghost use mathlib.Core.Path.{_≡_};
+
+mod pixels;
+
 use fault::Refusal;
 use line::Line;
 use notation::hex;
 use notation::number;
+pub use pixels::say_description;
+pub use pixels::say_format;
+pub use pixels::say_pixel;
 use std::alloc::AllocError;
 use std::alloc::Global;
 use transfer::Answer;

@@ -1,7 +1,7 @@
 use native.Mathlib.Omega.{arith}
 use lib.Chars.{codes}
 use Rattle.command.proofs.Forms.{over-limit}
-use Rattle.command.proofs.read.Needs as need
+use Rattle.command.proofs.lines.read.Needs as need
 
 pub returns-then-n-gt-READ-LIMIT : need.returns-then-n-gt-READ-LIMIT
 returns-then-n-gt-READ-LIMIT c =
