@@ -16,6 +16,9 @@ use pixel::Format;
 use std::alloc::AllocError;
 use std::alloc::Global;
 
+// The greatest native value.
+const GREATEST: usize = 255;
+
 // How many bytes describe a format.
 const DESCRIPTION: usize = 16;
 
@@ -35,7 +38,7 @@ fn value_of(format: Format, text: &[u8]) -> Option<u8>
     ensures { λ r. ⌜ BySome r ((v : ℕ) → Spells (Command.Pixel format v) (now (text .entry)) → ⊥) (λ v. Spells (Command.Pixel format v) (now (text .entry))) ⌝ }
 {
     let n = parse_number(after_format(format, text)?)?;
-    if n > 255 {
+    if n > GREATEST {
         return None;
     }
     Some(n as u8)
