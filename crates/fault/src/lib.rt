@@ -5,8 +5,14 @@ ghost use mathlib.Core.Path.{_≡_};
 
 #[derive(Clone, Copy, PartialEq, Eq, Debug)]
 pub enum Refusal {
+    // Memory for a screen does not fit its sides.
+    Size,
     // Memory that was handed over or lent has a length out of range.
     Memory,
+    // A block of cells is not as long as its rectangle has cells.
+    Block,
+    // The source of a copy is not inside the screen.
+    Source,
     // Bytes wait on a line that has to be empty.
     Waiting,
 }
@@ -18,7 +24,10 @@ impl Refusal {
         ensures alone { λ r. ⌜ ((other : Refusal) → numberOf other ≡ r → other ≡ self) ⌝ }
     {
         match self {
+            Refusal::Size => 1,
             Refusal::Memory => 2,
+            Refusal::Block => 3,
+            Refusal::Source => 4,
             Refusal::Waiting => 7,
         }
     }

@@ -1,0 +1,5 @@
+mod Covers
+mod Once
+mod Overlaps
+mod Places
+mod Rows

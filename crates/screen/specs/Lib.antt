@@ -1,0 +1,3 @@
+pub mod Paints
+pub mod Rects
+pub mod Runs

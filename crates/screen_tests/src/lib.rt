@@ -1,0 +1,3 @@
+// Examples of cutting and painting.
+#[cfg(test)]
+mod examples;
