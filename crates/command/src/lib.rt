@@ -1,4 +1,6 @@
 // The commands that the console understands, one on a line.
+#![tactic(auto)]
+
 ghost use Rattle.command.specs.Grammar.{Spells};
 ghost use Rattle.command.specs.Meaning.{Unambiguous};
 ghost use Rattle.std.specs.Prelude.{IfOk, MatchOption};

@@ -1,4 +1,6 @@
 // Examples of what the console reads and writes.
+#![tactic(auto)]
+
 #[cfg(test)]
 mod tests {
     use command::{Asked, Change, Command, Kind, Name, Operation, parse, parse_region};

@@ -1,4 +1,6 @@
 // The console: reads commands from standard input, one on a line, and prints one line for each.
+#![tactic(auto)]
+
 mod input;
 mod regions;
 mod site;

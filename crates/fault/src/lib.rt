@@ -1,5 +1,7 @@
 // Why a call refuses. A refusal has a number, and what was asked for has not happened: everything
 // is as it was.
+#![tactic(auto)]
+
 ghost use Rattle.fault.specs.Refusals.{number_of};
 ghost use Rattle.std.specs.Prelude.{◌≡◌};
 

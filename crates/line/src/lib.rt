@@ -1,4 +1,6 @@
 // Lines: each carries bytes one way, in order.
+#![tactic(auto)]
+
 mod batch;
 mod lines;
 mod ring;

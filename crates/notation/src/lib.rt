@@ -1,4 +1,6 @@
 // How the console writes bytes and numbers, and how it reads them.
+#![tactic(auto)]
+
 ghost use Rattle.std.specs.Prelude.{◌≡◌, ℕ, ◌/◌, ◌%◌, ◌<◌, List, length, IfOk, string_bytes, Decides, MatchOption, ◌≢◌, slice_index};
 ghost use Rattle.notation.specs.Decimal.{decimal, saturated};
 ghost use Rattle.notation.specs.Formats.{name_of};

@@ -1,4 +1,6 @@
 // The pixel formats, their descriptions, and pixels as bytes.
+#![tactic(auto)]
+
 ghost use Rattle.std.specs.Prelude.{◌≡◌};
 ghost use Rattle.pixel.specs.Colours.{Samples, translated};
 ghost use Rattle.pixel.specs.Descriptions.{Meant, Understood, described, parsed};

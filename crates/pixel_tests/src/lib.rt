@@ -1,4 +1,6 @@
 // What the pixel formats do on examples.
+#![tactic(auto)]
+
 #[cfg(test)]
 mod tests {
     use pixel::Format;

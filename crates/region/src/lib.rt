@@ -1,4 +1,6 @@
 // Regions: sets of cells, as at most 32 boxes in banded form.
+#![tactic(auto)]
+
 mod op;
 mod place;
 mod regions;

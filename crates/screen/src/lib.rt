@@ -1,4 +1,6 @@
 // Rectangles, and painting on a screen's cells.
+#![tactic(auto)]
+
 mod paint;
 mod rect;
 

@@ -1,3 +1,5 @@
 // Examples of cutting and painting.
+#![tactic(auto)]
+
 #[cfg(test)]
 mod examples;

@@ -1,4 +1,6 @@
 // Whole runs over any line: lists of calls, and a byte string carried from end to end.
+#![tactic(auto)]
+
 mod calls;
 mod trip;
 
