@@ -1,7 +1,7 @@
 // The pixel formats, their descriptions, and pixels as bytes.
 #![tactic(auto)]
 
-ghost use Rattle.std.specs.Prelude.{◌≡◌};
+ghost use Rattle.std.specs.Prelude.{◌≡◌, IfSome};
 ghost use Rattle.pixel.specs.Colours.{Samples, translated};
 ghost use Rattle.pixel.specs.Descriptions.{Meant, Understood, described, parsed};
 ghost use Rattle.pixel.specs.Pixels.{AllUsed, ReadBack, Sized, bytes_per, first_pixel, if_long, pixel_bytes, placed};
@@ -94,7 +94,7 @@ impl Format {
     // The value of the pixel at the start of the bytes, where there are enough.
     pub fn read(self, bytes: &[u8]) -> Option<u32>
         ensures value { result ≡ first_pixel self bytes.now }
-        ensures used { found result (AllUsed self) }
+        ensures used { IfSome result (AllUsed self) }
     {
         if bytes.len() < self.bytes_per_pixel() {
             return None;

@@ -23,7 +23,7 @@ impl<L: Line> Batch<L> {
     fn hold(&mut self, bytes: &[u8])
         requires { self.old.count + length bytes.now ≤ 32 }
         ensures held { held_by self.new ≡ held_by self.old ++ bytes.now }
-        ensures queue { (batch_state (seen queue ready room) self.new).queue ≡ (batch_state (seen queue ready room) self.old).queue ++ bytes.now }
+        ensures queue { (batch_state (seen L.queue L.ready L.room) self.new).queue ≡ (batch_state (seen L.queue L.ready L.room) self.old).queue ++ bytes.now }
         ensures below { self.new.below ≡ self.old.below }
     {
         let end = self.count + bytes.len();
@@ -34,9 +34,9 @@ impl<L: Line> Batch<L> {
     // Offers the held bytes below. The queue stays the same, and where there is one, the line below
     // has some of it.
     fn offer(&mut self)
-        ensures offered { Offered (held_by self.old) (seen queue ready room self.old.below) (held_by self.new) (seen queue ready room self.new.below) }
-        ensures queue { (batch_state (seen queue ready room) self.new).queue ≡ (batch_state (seen queue ready room) self.old).queue }
-        ensures some { 1 ≤ length (batch_state (seen queue ready room) self.old).queue → 1 ≤ length (queue self.new.below) }
+        ensures offered { Offered (held_by self.old) (seen L.queue L.ready L.room self.old.below) (held_by self.new) (seen L.queue L.ready L.room self.new.below) }
+        ensures queue { (batch_state (seen L.queue L.ready L.room) self.new).queue ≡ (batch_state (seen L.queue L.ready L.room) self.old).queue }
+        ensures some { 1 ≤ length (batch_state (seen L.queue L.ready L.room) self.old).queue → 1 ≤ length (L.queue self.new.below) }
     {
         let taken = self.below.write(&self.held[..self.count]);
         self.held = moved_up(&self.held, taken, self.count);

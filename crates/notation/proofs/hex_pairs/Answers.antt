@@ -9,7 +9,7 @@ loop-b-preserved c =
     pairs_more c.args.bytes.now c.loop-b.b-index c.digit.result c.digit-in-loop-b.result _ _ _ _ _
     c.loop-b-test.true c.loop-b.invariant c.digit.ensures.value c.digit-in-loop-b.ensures.value
     (c.push.ensures.ascii c.digit.ensures.ascii) (c.push-in-loop-b.ensures.ascii c.digit-in-loop-b.ensures.ascii)
-    c.in-ok-push.ensures.bytes c.in-ok-push-2.ensures.bytes
+    c.in_ok-push.ensures.bytes c.in_ok-push-2.ensures.bytes
 
 pub returns : goal.returns
 returns c = c.loop-b.invariant ∙ ap hex_pairs (take_all c.loop-b.b-index c.args.bytes.now c.loop-b-test.false)

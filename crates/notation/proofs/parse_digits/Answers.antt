@@ -10,8 +10,8 @@ returns-then-code-lt48 c =
 
 pub loop-code-preserved : goal.loop-code-preserved
 loop-code-preserved c =
-    read_more c.args.text.now c.loop-code.code-index c.loop-code.number c.saturating-mul.result c.saturating-add-number.result
-    c.requires.leading c.loop-code-test.true (omega arith) (omega arith) c.saturating-mul.ensures c.saturating-add-number.ensures c.loop-code.invariant
+    read_more c.args.text.now c.loop-code.code-index c.loop-code.number c.saturating_mul.result c.saturating_add-number.result
+    c.requires.leading c.loop-code-test.true (omega arith) (omega arith) c.saturating_mul.ensures c.saturating_add-number.ensures c.loop-code.invariant
 
 pub returns : goal.returns
 returns c = read_all c.args.text.now c.loop-code.code-index c.loop-code.number c.requires.some c.loop-code-test.false c.loop-code.invariant

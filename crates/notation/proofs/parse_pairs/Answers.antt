@@ -12,7 +12,7 @@ pub loop-i-preserved : goal.loop-i-preserved
 loop-i-preserved c =
     read_pair c.args.text.now (vec_items c.loop-i.bytes) _ c.loop-i.i c.in-Some.b
     (omega arith) c.loop-i.invariant.0 c.loop-i.invariant.1 c.in-Some.ensures.0 c.in-Some.ensures.1 c.in-Some.ensures.2
-    c.in-ok-push.ensures.items
+    c.in_ok-push.ensures.items
 
 pub returns : goal.returns
 returns c = (c.loop-i.invariant.0, read_pairs c.args.text.now (vec_items c.loop-i.bytes) (2 * c.loop-i.i) (omega arith) c.loop-i.invariant.1)

@@ -7,12 +7,12 @@ pub returns-in-Ok : goal.returns-in-Ok
 returns-in-Ok g c =
     let state = seen g.L.Line.queue g.L.Line.ready g.L.Line.room in
     let told = c.in-Ok.ensures in
-    let into = c.in-ok-into.into in
-    let size = c.in-ok-into.ensures.len in
+    let into = c.in_ok-into.into in
+    let size = c.in_ok-into.ensures.len in
     let fits : vec_len into ≡ length c.deref.result.now = omega (arith, size, c.deref.ensures.len, c.len.ensures) in
-    arrived (vec_items c.args.bytes) c.deref.result.now c.deref-mut.result.now c.carry.new.into _ c.in-Ok.rounds (vec_len into) (state c.args.line.now) (state c.carry.new.line)
+    arrived (vec_items c.args.bytes) c.deref.result.now c.deref_mut.result.now c.carry.new.into _ c.in-Ok.rounds (vec_len into) (state c.args.line.now) (state c.carry.new.line)
     c.deref.ensures.value
     fits
-    c.deref-mut.ensures.len
+    c.deref_mut.ensures.len
     told.refused
     told.cases

@@ -5,8 +5,8 @@ use Rattle.screen.proofs.Places.{row_fits, top_rows}
 use Rattle.screen.proofs.Rows.{top_more, top_all, top_free, source_row}
 use Rattle.screen.proofs.paint.copy_first_row_first.Goals as goal
 
-pub copy-run-requires : goal.copy-run-requires
-copy-run-requires g c =
+pub copy_run-requires : goal.copy_run-requires
+copy_run-requires g c =
     let source = c.args.source in
     let part = c.args.part in
     let row = c.loop-row.row in
@@ -28,7 +28,7 @@ loop-row-preserved g c =
     (source_row c.args.width c.args.height source part (top_rows part row) row c.place-to.result c.place-from.result before mid c.requires.rects c.loop-row-test.true c.place-from.ensures
     (λ x. top_free source part row x c.requires.order)
     c.loop-row.invariant)
-    c.loop-row.invariant c.copy-run.ensures
+    c.loop-row.invariant c.copy_run.ensures
 
 pub returns : goal.returns
 returns g c = top_all c.args.width c.args.height c.args.part c.loop-row.row _ _ _ (omega arith) c.loop-row.invariant

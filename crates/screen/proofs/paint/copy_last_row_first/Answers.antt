@@ -9,8 +9,8 @@ use Rattle.screen.proofs.paint.copy_last_row_first.Goals as goal
 pub loop-row-init : goal.loop-row-init
 loop-row-init g c = unpainted c.args.width c.args.height (last_rows c.args.part c.args.part.h) _ _ (grind (arith, nat_tests))
 
-pub copy-run-requires : goal.copy-run-requires
-copy-run-requires g c =
+pub copy_run-requires : goal.copy_run-requires
+copy_run-requires g c =
     let source = c.args.source in
     let part = c.args.part in
     let row = c.loop-row.row - 1 in
@@ -32,7 +32,7 @@ loop-row-preserved g c =
     (source_row c.args.width c.args.height source part (last_rows part row) (row - 1) c.place-to.result c.place-from.result before mid c.requires.rects (omega arith) c.place-from.ensures
     (λ x. last_free source part row x c.requires.order (omega arith))
     c.loop-row.invariant)
-    c.loop-row.invariant c.copy-run.ensures
+    c.loop-row.invariant c.copy_run.ensures
 
 pub returns : goal.returns
 returns g c = last_all c.args.width c.args.height c.args.part c.loop-row.row _ _ _ (omega arith) c.loop-row.invariant

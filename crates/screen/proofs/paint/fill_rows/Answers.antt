@@ -6,8 +6,8 @@ use Rattle.screen.proofs.Places.{row_fits, uncut}
 use Rattle.screen.proofs.Rows.{top_more, top_all}
 use Rattle.screen.proofs.paint.fill_rows.Goals as goal
 
-pub fill-run-requires : goal.fill-run-requires
-fill-run-requires g c =
+pub fill_run-requires : goal.fill_run-requires
+fill_run-requires g c =
     let part = c.args.part in
     let fits = row_fits c.args.width c.args.height part.x part.w (part.y + c.loop-row.row) (length c.loop-row.cells) c.requires.cut.inside.0 (omega arith) (omega arith) in
     omega arith
@@ -17,7 +17,7 @@ loop-row-preserved g c =
     top_more c.args.width c.args.height c.args.part c.loop-row.row c.place-at.result c.from.result (plain c.args.value) (always c.args.value) _ _ _
     c.requires.cut.inside c.loop-row-test.true c.place-at.ensures c.from.ensures
     (λ i d l. refl)
-    c.loop-row.invariant c.fill-run.ensures
+    c.loop-row.invariant c.fill_run.ensures
 
 pub returns : goal.returns
 returns g c =

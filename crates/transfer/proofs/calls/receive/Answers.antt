@@ -6,11 +6,11 @@ use Rattle.transfer.proofs.calls.receive.Goals as goal
 pub returns : goal.returns
 returns g c =
     let state = seen g.L.Line.queue g.L.Line.ready g.L.Line.room in
-    let into = c.deref-mut.result.now in
+    let into = c.deref_mut.result.now in
     let into' = c.read-given.new.into in
-    let fresh = c.in-ok-into.into in
-    let size = c.in-ok-into.ensures.len in
-    let long : length into ≡ c.args.most = omega (arith, size, c.deref-mut.ensures.len) in
+    let fresh = c.in_ok-into.into in
+    let size = c.in_ok-into.ensures.len in
+    let long : length into ≡ c.args.most = omega (arith, size, c.deref_mut.ensures.len) in
     let whole : length into' ≡ c.args.most = omega (arith, c.read-given.auto.into) in
     let rest = drop (length into') (vec_items fresh) in
     let cut = c.truncate.ensures.items ∙ ap (λ z. take c.read-given.result (take z (into' ++ rest))) size in

@@ -12,6 +12,6 @@ returns c =
     record {
       changed = changed_is c.args.change c.args.name r before after c.replace.ensures c.changed-region.ensures;
       other = other_stays c.args.name r before after c.replace.ensures;
-      words = subst (λ bs. IfOk c.say-boxes.result (λ s. string_bytes s ≡ boxes_words bs))
-          (c.boxes.ensures.boxes ∙ ap held (sym (named_is c.args.name r before after c.replace.ensures))) c.say-boxes.ensures;
+      words = subst (λ bs. IfOk c.say_boxes.result (λ s. string_bytes s ≡ boxes_words bs))
+          (c.boxes.ensures.boxes ∙ ap held (sym (named_is c.args.name r before after c.replace.ensures))) c.say_boxes.ensures;
     }

@@ -7,14 +7,14 @@ use Rattle.line.proofs.ring.Ring.append.Goals as goal
 whole : (before after : List ℕ) (size : ℕ) → length after ≡ size → take size (after ++ drop (length after) before) ≡ after
 whole before after size e = take_at after (drop (length after) before) size e
 
-pub invariant-of-self : goal.invariant-of-self
-invariant-of-self c =
+pub invariant_of-self : goal.invariant_of-self
+invariant_of-self c =
     let s = c.args.self.now in
     let memory = c.store.new.memory in
     let used = s.used + length c.args.bytes.now in
-    let size : length memory ≡ vec_len s.memory = c.store.ensures.0 ∙ c.deref-mut.ensures.len in
+    let size : length memory ≡ vec_len s.memory = c.store.ensures.0 ∙ c.deref_mut.ensures.len in
     let count = ap (λ z. length (around z s.head used)) (whole (vec_items s.memory) memory (vec_len s.memory) size) ∙ length-around memory s.head used (omega arith) in
-    (omega arith, (omega arith, (omega arith, (count, tt))))
+    record { size = omega arith; inside = omega arith; fits = omega arith; count = count }
 
 pub returns : goal.returns
 returns c =
@@ -23,7 +23,7 @@ returns c =
     let new = c.args.bytes.now in
     let tail = c.place-tail.result in
     let memory = c.store.new.memory in
-    let extended : Extended m tail new memory = subst (λ (z : List ℕ). Extended z tail new memory) c.deref-mut.ensures.value c.store.ensures in
+    let extended : Extended m tail new memory = subst (λ (z : List ℕ). Extended z tail new memory) c.deref_mut.ensures.value c.store.ensures in
     let size : vec_len s.memory ≡ length m = omega arith in
     record {
       queue = ap (λ z. around z s.head (s.used + length new)) (whole m memory (vec_len s.memory) (extended.0 ∙ sym size))

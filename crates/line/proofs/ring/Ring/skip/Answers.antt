@@ -16,10 +16,10 @@ returns c =
       size = refl;
     }
 
-pub invariant-of-self : goal.invariant-of-self
-invariant-of-self c =
+pub invariant_of-self : goal.invariant_of-self
+invariant_of-self c =
     let s = c.args.self.now in
     let left = s.used - c.args.count in
     let inside : c.place-self.result < vec_len s.memory = grind (arith, nat_tests) in
     let count = length-around (vec_items s.memory) c.place-self.result left (omega arith) in
-    (omega arith, (inside, (omega arith, (count, tt))))
+    record { size = omega arith; inside = inside; fits = omega arith; count = count }

@@ -5,5 +5,5 @@ use Rattle.line.proofs.ring.methods.load.Goals as goal
 pub returns : goal.returns
 returns c =
     loaded c.args.memory.now c.args.into.now _ _ c.args.at c.min-run.result c.requires.0 c.requires.1 c.min-run.ensures
-    c.copy-from-slice.ensures.after
-    c.copy-from-slice-2.ensures.after
+    c.copy_from_slice.ensures.after
+    c.copy_from_slice-2.ensures.after

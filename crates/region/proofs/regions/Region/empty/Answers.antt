@@ -2,5 +2,5 @@ use Rattle.std.proofs.Common.{arith}
 use Rattle.region.proofs.Results.{none_banded}
 use Rattle.region.proofs.regions.Region.empty.Goals as goal
 
-pub invariant-of-result : goal.invariant-of-result
-invariant-of-result c = (omega arith, (∣ none_banded ∣₁, tt))
+pub invariant_of-result : goal.invariant_of-result
+invariant_of-result c = (omega arith, (∣ none_banded ∣₁, tt))

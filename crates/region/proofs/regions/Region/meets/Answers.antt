@@ -5,8 +5,8 @@ use Rattle.region.proofs.regions.Region.meets.Goals as goal
 
 pub returns-in-Some : goal.returns-in-Some
 returns-in-Some c =
-    meets_some (held c.args.self.now) c.boxes.result.now c.args.rect c.in-Some.b c.any-meets.result c.boxes.ensures.boxes c.boxes.ensures.banded
-    c.in-Some.ensures.1 c.any-meets.ensures
+    meets_some (held c.args.self.now) c.boxes.result.now c.args.rect c.in-Some.b c.any_meets.result c.boxes.ensures.boxes c.boxes.ensures.banded
+    c.in-Some.ensures.1 c.any_meets.ensures
 
 pub returns-in-None : goal.returns-in-None
 returns-in-None c =

@@ -5,20 +5,20 @@ use Rattle.region.specs.Held.{held}
 use Rattle.region.proofs.Shifted.{shift_moves}
 use Rattle.region.proofs.regions.Region.shift.Goals as goal
 
-pub invariant-of-result : goal.invariant-of-result
-invariant-of-result c =
+pub invariant_of-result : goal.invariant_of-result
+invariant_of-result c =
     let r = c.args.self.now in
     let part = c.cut-part.result in
-    let m = shift_moves c.args.from.x c.args.from.y c.args.to.x c.args.to.y (held r) (held c.staying-cells.result) part.boxes c.move-all.new.boxes
-    (post_of 0 (part.count - 0) part.boxes) part.count (given (held r) r.banded) (omega (arith, length-take r.count r.boxes, r.few)) c.staying-cells.ensures
-    c.cut-part.ensures (omega arith) c.move-all.ensures in
+    let m = shift_moves c.args.from.x c.args.from.y c.args.to.x c.args.to.y (held r) (held c.staying_cells.result) part.boxes c.move_all.new.boxes
+    (post_of 0 (part.count - 0) part.boxes) part.count (given (held r) r.banded) (omega (arith, length-take r.count r.boxes, r.few)) c.staying_cells.ensures
+    c.cut-part.ensures (omega arith) c.move_all.ensures in
     (part.few, (∣ m.banded ∣₁, tt))
 
 pub returns : goal.returns
 returns c =
     let r = c.args.self.now in
     let part = c.cut-part.result in
-    let m = shift_moves c.args.from.x c.args.from.y c.args.to.x c.args.to.y (held r) (held c.staying-cells.result) part.boxes c.move-all.new.boxes
-    (post_of 0 (part.count - 0) part.boxes) part.count (given (held r) r.banded) (omega (arith, length-take r.count r.boxes, r.few)) c.staying-cells.ensures
-    c.cut-part.ensures (omega arith) c.move-all.ensures in
+    let m = shift_moves c.args.from.x c.args.from.y c.args.to.x c.args.to.y (held r) (held c.staying_cells.result) part.boxes c.move_all.new.boxes
+    (post_of 0 (part.count - 0) part.boxes) part.count (given (held r) r.banded) (omega (arith, length-take r.count r.boxes, r.few)) c.staying_cells.ensures
+    c.cut-part.ensures (omega arith) c.move_all.ensures in
     record { region = m.region; exact = m.exact }

@@ -4,8 +4,8 @@ use Rattle.region.proofs.regions.methods.move_all.Goals as goal
 
 pub loop-b-preserved : goal.loop-b-preserved
 loop-b-preserved c =
-    map_more (move_onto c.args.from.x c.args.from.y c.args.to.x c.args.to.y) c.args.boxes.now c.loop-b.boxes c.loop-b.b-index c.move-box.new.b
-    c.loop-b-test.true c.loop-b.auto.boxes c.loop-b.invariant c.move-box.ensures
+    map_more (move_onto c.args.from.x c.args.from.y c.args.to.x c.args.to.y) c.args.boxes.now c.loop-b.boxes c.loop-b.b-index c.move_box.new.b
+    c.loop-b-test.true c.loop-b.auto.boxes c.loop-b.invariant c.move_box.ensures
 
 pub returns : goal.returns
 returns c =

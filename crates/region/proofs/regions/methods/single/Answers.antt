@@ -2,5 +2,5 @@ use Rattle.std.proofs.Common.{arith}
 use Rattle.boxes.proofs.Rules.{box_banded}
 use Rattle.region.proofs.regions.methods.single.Goals as goal
 
-pub invariant-of-result : goal.invariant-of-result
-invariant-of-result c = (omega arith, (∣ box_banded c.args.b c.requires ∣₁, tt))
+pub invariant_of-result : goal.invariant_of-result
+invariant_of-result c = (omega arith, (∣ box_banded c.args.b c.requires ∣₁, tt))

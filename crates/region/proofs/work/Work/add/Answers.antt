@@ -13,5 +13,5 @@ returns c =
       sound = put.sound;
       adds = adds_apart c.args.top c.args.bottom (spans c.args.runs.now) c.args.self.now _ c.put.new.self refl refl refl refl put.adds;
       hull = stretched_some c.args.top c.args.bottom c.args.runs.now c.args.self.now.hull c.put.new.self.hull c.if-runs-eq0.false
-          (put.hull ∙ c.hull-of-self.ensures);
+          (put.hull ∙ c.hull_of-self.ensures);
     }

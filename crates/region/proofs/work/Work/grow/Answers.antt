@@ -10,5 +10,5 @@ returns c =
       start = refl;
       over = refl;
       hull = refl;
-      boxes = grow_boxes w.boxes c.lower-all.new.band w.start w.count c.args.bottom c.requires.1 (omega arith) c.lower-all.ensures;
+      boxes = grow_boxes w.boxes c.lower_all.new.band w.start w.count c.args.bottom c.requires.1 (omega arith) c.lower_all.ensures;
     }

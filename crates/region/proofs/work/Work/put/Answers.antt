@@ -11,13 +11,13 @@ returns-then-self c =
       hull = refl;
     }
 
-pub returns-then-goes-on : goal.returns-then-goes-on
-returns-then-goes-on c =
+pub returns-then-goes_on : goal.returns-then-goes_on
+returns-then-goes_on c =
     let grown = c.grow.ensures in
     record {
       sound = (omega (arith, grown.count), omega (arith, grown.count, grown.start));
       adds = adds_grown c.args.top c.args.bottom c.args.runs.now c.args.self.now c.grow.new.self c.requires.0 c.if-self.false c.requires.1
-          c.if-goes-on.ensures grown;
+          c.if-goes_on.ensures grown;
       hull = grown.hull;
     }
 
@@ -27,6 +27,6 @@ returns c =
     record {
       sound = (pushed.count, pushed.order);
       adds = adds_pushed c.args.top c.args.bottom c.args.runs.now c.args.self.now c.push.new.self (omega arith) c.if-self.false c.requires.1
-          c.if-goes-on.ensures pushed;
+          c.if-goes_on.ensures pushed;
       hull = pushed.hull;
     }
