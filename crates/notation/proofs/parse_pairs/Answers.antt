@@ -5,8 +5,8 @@ use Rattle.notation.proofs.parse_pairs.Goals as goal
 pub returns-then-text-ne0 : goal.returns-then-text-ne0
 returns-then-text-ne0 c = λ bs _ e. no_odd c.args.text.now bs c.if-text-ne0.true e
 
-pub returns-in-default : goal.returns-in-default
-returns-in-default c = λ bs p e. no_pair c.args.text.now bs c.loop-i.i (omega arith) c.in-default.ensures p e
+pub returns-in_default : goal.returns-in_default
+returns-in_default c = λ bs p e. no_pair c.args.text.now bs c.loop-i.i (omega arith) c.in_default.ensures p e
 
 pub loop-i-preserved : goal.loop-i-preserved
 loop-i-preserved c =
