@@ -1,5 +1,5 @@
-pub mod Asked
+pub mod Alone
 pub mod Forms
 pub mod Shorts
 pub mod Splits
-mod Unambiguous
+pub mod Unambiguous

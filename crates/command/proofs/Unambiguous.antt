@@ -15,7 +15,7 @@ use Rattle.command.specs.declared.Kind.{Kind}
 use Rattle.command.specs.declared.Kind.TheVariants.{Ring, Batch, Pile}
 
 -- the letter at a place is the first of the word
-abbrev begins : List ℕ → ℕ → List ℕ → {A : Type 0} → A → A → A
+abbrev pub begins : List ℕ → ℕ → List ℕ → {A : Type 0} → A → A → A
 begins text i word x y = cond (eqb (get_or text i 0) (get_or word 0 0)) x y
 
 abbrev line_says : List ℕ → Meaning

@@ -48,5 +48,5 @@ abbrev pub OfRegion : Name → List ℕ → List ℕ → Type 0
 OfRegion name rest text = text ≡ codes "region " ++ spaced (name_word name) rest
 
 -- the text asks for this change of the region of that name
-abbrev pub SpellsAsked : Name → Change → List ℕ → Type 0
-SpellsAsked name change text = (rest : List ℕ) × OfRegion name rest text × SpellsChange change rest
+abbrev pub SpellsRegion : Name → Change → List ℕ → Type 0
+SpellsRegion name change text = (rest : List ℕ) × OfRegion name rest text × SpellsChange change rest

@@ -1,4 +1,4 @@
-pub mod Asked
+pub mod Alone
 pub mod Changes
 pub mod Grammar
 pub mod Meaning

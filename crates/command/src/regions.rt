@@ -1,6 +1,6 @@
 // The commands on regions, in the same manner.
-ghost use Rattle.command.specs.Asked.{AskedAlone};
-ghost use Rattle.command.specs.Changes.{BeginsShort, OfRegion, SpellsAsked, SpellsChange, SpellsRect, SpellsShort, name_word, operation_word};
+ghost use Rattle.command.specs.Alone.{RegionAlone};
+ghost use Rattle.command.specs.Changes.{BeginsShort, OfRegion, SpellsRegion, SpellsChange, SpellsRect, SpellsShort, name_word, operation_word};
 ghost use Rattle.command.specs.Spaces.{spaced};
 ghost use Rattle.std.specs.Prelude.{◌≡◌, ℕ, List, MatchOption, ◌≢◌};
 
@@ -39,7 +39,7 @@ pub enum Change {
 
 // `region NAME CHANGE`
 #[derive(Clone, Copy)]
-pub struct Asked {
+pub struct RegionCommand {
     pub name: Name,
     pub change: Change,
 }
@@ -131,18 +131,18 @@ fn change_of(text: &[u8]) -> Option<Change>
 
 // The change of a region that the text asks for, or `None` where it asks for none. No text asks for
 // two, and none that spells a command asks for one.
-pub fn parse_region(text: &[u8]) -> Option<Asked>
-    ensures value { MatchOption result ((name : Name) (change : Change) → SpellsAsked name change text.now → ⊥) (λ c. SpellsAsked c.name c.change text.now) }
-    ensures alone { AskedAlone }
+pub fn parse_region(text: &[u8]) -> Option<RegionCommand>
+    ensures value { MatchOption result ((name : Name) (change : Change) → SpellsRegion name change text.now → ⊥) (λ c. SpellsRegion c.name c.change text.now) }
+    ensures alone { RegionAlone }
 {
     region(text)
 }
 
-fn region(text: &[u8]) -> Option<Asked>
-    ensures { MatchOption result ((name : Name) (change : Change) → SpellsAsked name change text.now → ⊥) (λ c. SpellsAsked c.name c.change text.now) }
+fn region(text: &[u8]) -> Option<RegionCommand>
+    ensures { MatchOption result ((name : Name) (change : Change) → SpellsRegion name change text.now → ⊥) (λ c. SpellsRegion c.name c.change text.now) }
 {
     let (name, rest) = asked(text)?;
-    Some(Asked {
+    Some(RegionCommand {
         name,
         change: change_of(rest)?,
     })

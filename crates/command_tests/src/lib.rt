@@ -3,7 +3,7 @@
 
 #[cfg(test)]
 mod tests {
-    use command::{Asked, Change, Command, Kind, Name, Operation, parse, parse_region};
+    use command::{RegionCommand, Change, Command, Kind, Name, Operation, parse, parse_region};
     use notation::{hex, parse_hex, parse_number};
     use screen::Rect;
     use std::alloc::{AllocError, Global};
@@ -25,7 +25,7 @@ mod tests {
     fn change_of_b(text: &[u8]) -> Option<Change> {
         match parse_region(text) {
             Some(
-                Asked {
+                RegionCommand {
                     name: Name::B,
                     change,
                 },

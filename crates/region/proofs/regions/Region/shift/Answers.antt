@@ -12,7 +12,7 @@ invariant_of-result c =
     let m = shift_moves c.args.from.x c.args.from.y c.args.to.x c.args.to.y (held r) (held c.staying_cells.result) part.boxes c.move_all.new.boxes
     (post_of 0 (part.count - 0) part.boxes) part.count (given (held r) r.banded) (omega (arith, length-take r.count r.boxes, r.few)) c.staying_cells.ensures
     c.cut-part.ensures (omega arith) c.move_all.ensures in
-    (part.few, (∣ m.banded ∣₁, tt))
+    record { few = part.few; banded = ∣ m.banded ∣₁ }
 
 pub returns : goal.returns
 returns c =

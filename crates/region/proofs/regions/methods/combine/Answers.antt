@@ -20,7 +20,7 @@ pub invariant_of-result : goal.invariant_of-result
 invariant_of-result c =
     let banded = few_banded c.args.op c.boxes.result.now c.boxes-2.result.now c.boxes.ensures.banded c.boxes-2.ensures.banded c.sweep-work.result
     c.sweep-work.ensures c.if-work.false in
-    (c.sweep-work.ensures.holds.count, (∣ banded ∣₁, tt))
+    record { few = c.sweep-work.ensures.holds.count; banded = ∣ banded ∣₁ }
 
 pub returns : goal.returns
 returns c =

@@ -26,7 +26,7 @@ loop-run-preserved c =
       v.2,
       v.3,
       length-set c.loop-run.self.boxes _ _ ∙ v.4,
-      push_more (take c.args.self.now.count c.args.self.now.boxes) c.loop-run.self.boxes c.loop-run.self.count c.loop-run.run_index c.args.top c.args.bottom
+      push_more (take c.args.self.now.count c.args.self.now.boxes) c.loop-run.self.boxes c.loop-run.self.count c.loop-run.run-index c.args.top c.args.bottom
           c.args.runs.now lt c.loop-run-test.true v.5,
     )
 
@@ -41,5 +41,5 @@ returns c =
       full = λ h. absurd (omega arith);
       over = λ _. v.2;
       start = λ _. v.1;
-      boxes = λ _. push_all (take c.args.self.now.count c.args.self.now.boxes) c.loop-run.self.boxes c.loop-run.self.count c.loop-run.run_index c.args.top c.args.bottom c.args.runs.now c.loop-run-test.false v.5;
+      boxes = λ _. push_all (take c.args.self.now.count c.args.self.now.boxes) c.loop-run.self.boxes c.loop-run.self.count c.loop-run.run-index c.args.top c.args.bottom c.args.runs.now c.loop-run-test.false v.5;
     }

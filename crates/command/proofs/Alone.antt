@@ -1,17 +1,20 @@
 -- A text that asks for a change of a region tells which, and spells no command.
-use Rattle.std.proofs.Common.{◌≡◌, ℕ, false, cond, eqb, List, ◌∷◌, ◌++◌, length, get_or, drop, codes, sym, refl, ap, ◌∙◌, arith}
+use Rattle.std.proofs.Common.{◌≡◌, ℕ, Bool, true, false, cond, eqb, List, ◌∷◌, ◌++◌, length, get_or, drop, codes, sym, refl, ap, ◌∙◌, arith}
 use Rattle.std.proofs.lemmas.List.{length-append}
+use Rattle.std.proofs.lemmas.Bool.{true≢false}
 use Rattle.std.proofs.lemmas.Bool.Decides.{nat_tests}
 use Rattle.notation.specs.Decimal.{decimal}
 use Rattle.notation.proofs.Numbers.{undecimal, undecimal-decimal}
 use Rattle.screen.specs.declared.rect.Rect.{Rect}
-use Rattle.command.specs.Asked.{AskedAlone}
-use Rattle.command.specs.Changes.{SpellsAsked, SpellsChange, rect_text}
+use Rattle.command.specs.Alone.{RegionAlone}
+use Rattle.command.specs.Changes.{SpellsRegion, SpellsChange, rect_text}
 use Rattle.command.specs.Grammar.{Spells}
 use Rattle.command.specs.Spaces.{spaced}
 use Rattle.command.proofs.Shorts.{decimal_unspaced}
 use Rattle.command.proofs.Splits.{behind_is, behind_of, word_is, word_of}
 use Rattle.command.proofs.Unambiguous.{begins}
+use Rattle.command.specs.declared.Command.{Command}
+use Rattle.command.specs.declared.Command.TheVariants.{Line, Write, Read, Flush, Queue, Carry, Pixel, Describe, Recognize}
 use Rattle.command.specs.declared.regions.Change.{Change}
 use Rattle.command.specs.declared.regions.Change.TheVariants.{Empty, ByRect, ByRegion}
 use Rattle.command.specs.declared.regions.Name.{Name}
@@ -81,17 +84,35 @@ change_told (ByRegion Cut B) text s = ap change_says s
 change_told (ByRegion Away A) text s = ap change_says s
 change_told (ByRegion Away B) text s = ap change_says s
 
-name_is_told : (name : Name) (change : Change) (text : List ℕ) → SpellsAsked name change text → name_says (drop 7 text) ≡ name
+name_is_told : (name : Name) (change : Change) (text : List ℕ) → SpellsRegion name change text → name_says (drop 7 text) ≡ name
 name_is_told A change text s = ap (λ t. name_says (drop 7 t)) s.1
 name_is_told B change text s = ap (λ t. name_says (drop 7 t)) s.1
 
-change_is_told : (name : Name) (change : Change) (text : List ℕ) → SpellsAsked name change text → change_says (drop 9 text) ≡ change
+change_is_told : (name : Name) (change : Change) (text : List ℕ) → SpellsRegion name change text → change_says (drop 9 text) ≡ change
 change_is_told A change text s = ap (λ t. change_says (drop 9 t)) s.1 ∙ change_told change s.0 s.2
 change_is_told B change text s = ap (λ t. change_says (drop 9 t)) s.1 ∙ change_told change s.0 s.2
 
-pub asked_alone : AskedAlone
-asked_alone = record {
+-- the third letter is a region's alone
+abbrev third : List ℕ → Bool
+third text = eqb (get_or text 2 0) 103
+
+third_region : (name : Name) (change : Change) (text : List ℕ) → SpellsRegion name change text → third text ≡ true
+third_region name change text s = ap third s.1
+
+third_command : (c : Command) (text : List ℕ) → Spells c text → third text ≡ false
+third_command (Line kind m) text s = ap third s.1
+third_command (Write v) text s = ap third s.1
+third_command (Read n) text s = ap third s.1
+third_command Flush text s = ap third s
+third_command Queue text s = ap third s
+third_command (Carry v) text s = ap third s.1
+third_command (Pixel format v) text s = ap third s.1
+third_command (Describe format) text s = ap third s
+third_command (Recognize v) text s = ap third s.1.1
+
+pub region_alone : RegionAlone
+region_alone = record {
   name = λ n m c d text s t. sym (name_is_told n c text s) ∙ name_is_told m d text t;
   change = λ n m c d text s t. sym (change_is_told n c text s) ∙ change_is_told m d text t;
-  command = ?;
+  command = λ n c d text s t. true≢false (sym (third_region n c text s) ∙ third_command d text t);
 }
