@@ -1,5 +1,5 @@
 -- Strips of rows, added one by one below a stack of bands.
-use Rattle.std.proofs.Common.{◌≡◌, ℕ, suc, ◌+◌, ◌<◌, ◌≤◌, Bool, true, false, cond, ◌&&◌, eqb, ◌≢◌, List, [], ◌∷◌, ◌++◌, map, length, sym, refl, ap, ◌∙◌, subst, inl, inr, arith}
+use Rattle.std.proofs.Common.{◌≡◌, ℕ, suc, ◌+◌, ◌<◌, ◌≤◌, Bool, true, false, ◌&&◌, eqb, ◌≢◌, List, [], ◌∷◌, ◌++◌, length, sym, refl, ap, ◌∙◌, subst, inl, inr, arith}
 use Rattle.std.specs.List.{AllByRecursion}
 use Rattle.std.proofs.lemmas.List.{length-append}
 use Rattle.std.proofs.lemmas.Bool.{cases_lt, cases_Bool, false≢true, both_ways, eqb-true, and_parts, and_right, or_cases, cond_both, eq-eqb}
@@ -8,7 +8,7 @@ use Rattle.boxes.specs.declared.cell_box.CellBox.{CellBox}
 use Rattle.boxes.specs.Banded.{Span}
 use Rattle.boxes.specs.Bands.{Apart, Band, Stack, boxes_of, flat, in_spans, row_of}
 use Rattle.boxes.specs.Cells.{between, has, on_largest}
-use Rattle.boxes.specs.Strips.{Painted, add_band, goes_on, grown, lower_all, lowered, same_runs}
+use Rattle.boxes.specs.Strips.{Painted, add_band, goes_on, grown, lower_all, same_runs}
 use Rattle.boxes.proofs.Unique.{between_true, has_flat, row_apart, row_before, row_lead, row_past, span_same}
 
 -- runs

@@ -1,5 +1,5 @@
 -- Boxes of cells, and sets of cells.
-use Rattle.std.specs.Prelude.{◌≡◌, ℕ, ◌+◌, ◌-◌, Bool, true, false, not, ◌&&◌, ◌||◌, List, [], ◌∷◌, nat_le, nat_lt}
+use Rattle.std.specs.Prelude.{◌≡◌, ℕ, ◌+◌, ◌-◌, Bool, false, not, ◌&&◌, ◌||◌, List, [], ◌∷◌, nat_le, nat_lt}
 use Rattle.screen.specs.Rects.{holds, on_screen}
 use Rattle.screen.specs.declared.rect.Rect.{Rect}
 use Rattle.boxes.specs.declared.cell_box.CellBox.{CellBox}

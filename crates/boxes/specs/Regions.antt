@@ -1,5 +1,5 @@
 -- Regions: which boxes stand for a set of cells.
-use Rattle.std.specs.Prelude.{◌≡◌, ℕ, ◌+◌, ◌≤◌, min, max, Bool, true, false, cond, ◌&&◌, List, [], ◌∷◌, length, nat_le}
+use Rattle.std.specs.Prelude.{◌≡◌, ℕ, ◌+◌, min, max, Bool, true, cond, ◌&&◌, List, [], ◌∷◌, length, nat_le}
 use Rattle.boxes.specs.declared.cell_box.CellBox.{CellBox}
 use Rattle.boxes.specs.Banded.{Banded}
 use Rattle.boxes.specs.Cells.{has, in_box, on_largest, either, SameCells}

@@ -2,7 +2,6 @@
 use Rattle.std.proofs.Common.{◌≡◌, ℕ, cond, eqb, List, ◌++◌, get_or, drop, vec_items, codes, sym, refl, ap, ◌∙◌}
 use Rattle.notation.specs.Decimal.{decimal, saturated}
 use Rattle.notation.specs.Formats.{format_word}
-use Rattle.notation.specs.Hex.{hex_of}
 use Rattle.notation.proofs.Numbers.{undecimal, undecimal-decimal}
 use Rattle.notation.proofs.Pairs.{unhex, unhex-hex_of}
 use Rattle.command.specs.Grammar.{kind_word, Spells}

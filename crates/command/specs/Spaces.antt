@@ -1,5 +1,5 @@
 -- Words that single spaces divide.
-use Rattle.std.specs.Prelude.{◌≡◌, ℕ, ◌<◌, List, ◌++◌, length, codes, ◌≢◌, slice_index}
+use Rattle.std.specs.Prelude.{ℕ, ◌<◌, List, ◌++◌, length, codes, ◌≢◌, slice_index}
 
 -- no space stands in the word
 abbrev pub Unspaced : List ℕ → Type 0

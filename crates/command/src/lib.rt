@@ -13,7 +13,7 @@ mod words;
 use lines::{carry, flush, line, queue, read, write};
 use pixel::Format;
 use pixels::{describe, pixel, recognize};
-pub use regions::{RegionCommand, Change, Name, Operation, parse_region};
+pub use regions::{Change, Name, Operation, RegionCommand, parse_region};
 use std::alloc::{AllocError, Global};
 
 #[derive(Clone, Copy)]

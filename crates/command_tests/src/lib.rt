@@ -3,7 +3,7 @@
 
 #[cfg(test)]
 mod tests {
-    use command::{RegionCommand, Change, Command, Kind, Name, Operation, parse, parse_region};
+    use command::{Change, Command, Kind, Name, Operation, RegionCommand, parse, parse_region};
     use notation::{hex, parse_hex, parse_number};
     use screen::Rect;
     use std::alloc::{AllocError, Global};

@@ -1,7 +1,7 @@
 // What the console keeps from command to command.
 use super::regions::Regions;
 use super::site::Site;
-use command::{RegionCommand, Command};
+use command::{Command, RegionCommand};
 use session::{Request, say_description, say_format, say_pixel};
 use std::alloc::{AllocError, Global};
 use transfer::Call;
@@ -37,7 +37,11 @@ impl State {
     }
 
     // Changes a region as it is asked, and answers its boxes in words.
-    pub(crate) fn change(&mut self, heap: Global, asked: RegionCommand) -> Result<String, AllocError> {
+    pub(crate) fn change(
+        &mut self,
+        heap: Global,
+        asked: RegionCommand,
+    ) -> Result<String, AllocError> {
         self.regions.answer(heap, asked.name, asked.change)
     }
 }

@@ -1,5 +1,5 @@
 -- A line that shows and takes one byte at a time keeps the two standing rules.
-use Rattle.std.specs.Prelude.{ℕ, min, Bool, true, false, cond, List, length}
+use Rattle.std.specs.Prelude.{ℕ, min, Bool, true, false, cond, List}
 use Rattle.std.proofs.Common.{arith}
 use Rattle.line.specs.Rules.{Within, Opens}
 

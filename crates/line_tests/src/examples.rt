@@ -132,7 +132,9 @@ fn calls_are_answered_one_by_one(rt: HostRuntime) -> Result<(), Fail> {
     assert!(rt; matches!(&answers[0], Answer::Took(4)));
     assert!(rt; matches!(&answers[1], Answer::Gave(bytes) if bytes.is_empty()));
     assert!(rt; matches!(&answers[2], Answer::Done));
-    assert!(rt; matches!(&answers[3], Answer::Gave(bytes) if bytes.as_slice() == b"471".as_slice()));
+    assert!(rt;
+        matches!(&answers[3], Answer::Gave(bytes) if bytes.as_slice() == b"471".as_slice())
+    );
     assert_eq!(rt; line.queued(), 1);
     Ok(())
 }

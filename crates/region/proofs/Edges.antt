@@ -5,7 +5,6 @@ use Rattle.std.proofs.lemmas.List.Edits.{map_over_more}
 use Rattle.std.proofs.lemmas.List.{append_assoc, append-nil, drop_all, drop_more, get_or_default, length-drop, length-map, length-take-le, take_all, take_more, take_more_set}
 use Rattle.std.proofs.lemmas.Slice.{between_is, take-put_mid}
 use Rattle.boxes.specs.declared.cell_box.CellBox.{CellBox}
-use Rattle.boxes.specs.Banded.{span}
 use Rattle.boxes.specs.Bands.{boxes_of}
 use Rattle.boxes.specs.Regions.{no_box}
 use Rattle.boxes.specs.Strips.{lower_all, lowered, same_runs}

@@ -1,5 +1,5 @@
 -- What is drawn is the boxes of bands, and stays so as bands are added.
-use Rattle.std.proofs.Common.{◌≡◌, ℕ, suc, ◌+◌, ◌-◌, ◌<◌, ◌≤◌, Bool, true, false, cond, ◌&&◌, eqb, ◌≢◌, List, [], ◌∷◌, ◌++◌, length, get_or, take, drop, sym, refl, ap, ◌∙◌, subst, ap₂, inl, inr, arith}
+use Rattle.std.proofs.Common.{◌≡◌, ℕ, ◌+◌, ◌-◌, ◌<◌, ◌≤◌, Bool, true, false, ◌&&◌, eqb, ◌≢◌, List, [], ◌∷◌, ◌++◌, length, get_or, take, drop, sym, refl, ap, ◌∙◌, subst, ap₂, inl, inr, arith}
 use Rattle.std.proofs.lemmas.List.{drop_all, drop_at, length-take-le, take_at, take-take}
 use Rattle.std.proofs.lemmas.Slice.{between_is}
 use Rattle.std.proofs.lemmas.Bool.{both_ways, cases_lt, cond-false, cond-true, false≢true}
@@ -7,11 +7,11 @@ use Rattle.boxes.specs.declared.cell_box.CellBox.{CellBox}
 use Rattle.boxes.specs.Banded.{Span, span}
 use Rattle.boxes.specs.Bands.{Band, Stack, boxes_of, flat}
 use Rattle.boxes.specs.Regions.{hull, no_box}
-use Rattle.boxes.specs.Strips.{add_band, goes_on, grown, last_right, lower_all, same_runs, stretched}
+use Rattle.boxes.specs.Strips.{goes_on, grown, last_right, lower_all, same_runs, stretched}
 use Rattle.boxes.proofs.Adding.{grows, length_flat, lower_boxes, some_runs}
 use Rattle.region.specs.declared.work.Work.{Work}
 use Rattle.region.specs.Rows.{spans}
-use Rattle.region.specs.Works.{Adds, Grown, Holds, Pushed, Sound, goes_on_boxes, start_of}
+use Rattle.region.specs.Works.{Adds, Grown, Holds, Pushed, Sound, goes_on_boxes}
 
 spans_boxes : (t e : ℕ) (ss : List Span) → spans (boxes_of t e ss) ≡ ss
 spans_boxes t e [] = refl

@@ -1,5 +1,5 @@
 -- Which cells the runs of a row have at the column at hand.
-use Rattle.std.proofs.Common.{◌≡◌, ℕ, zero, suc, ◌+◌, ◌<◌, ◌≤◌, Bool, true, false, cond, ◌&&◌, ◌||◌, ltb, leb, List, [], ◌∷◌, length, get_or, drop, sym, refl, ap, ◌∙◌, subst, ap₂, inl, inr, arith}
+use Rattle.std.proofs.Common.{◌≡◌, ℕ, zero, suc, ◌+◌, ◌<◌, ◌≤◌, Bool, true, false, cond, ◌&&◌, ltb, leb, List, [], ◌∷◌, length, get_or, drop, sym, refl, ap, ◌∙◌, subst, ap₂, inl, inr, arith}
 use Rattle.std.proofs.lemmas.List.{drop_all, drop_more}
 use Rattle.std.proofs.lemmas.Bool.{cases_lt, cond_both, cond-true, lt-ltb}
 use Rattle.std.proofs.lemmas.Bool.Decides.{nat_tests}
@@ -9,7 +9,7 @@ use Rattle.boxes.specs.Bands.{Apart, in_spans}
 use Rattle.boxes.specs.Regions.{no_box}
 use Rattle.boxes.specs.Strips.{Drawn}
 use Rattle.boxes.proofs.Drawing.{apart_from, drawn_pass}
-use Rattle.boxes.proofs.Unique.{apart_before, drop_head, head_before, head_in}
+use Rattle.boxes.proofs.Unique.{drop_head, head_before, head_in}
 use Rattle.region.specs.declared.op.Op.{Op}
 use Rattle.region.specs.declared.op.Op.TheVariants.{Join, Cut, TakeAway}
 use Rattle.region.specs.Rows.{Fits, Merged, add_run, edge_of, on_run, past_run, spans, start_of}

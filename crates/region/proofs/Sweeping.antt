@@ -1,10 +1,10 @@
 -- Strips of rows, drawn one below the other.
-use Rattle.std.proofs.Common.{◌≡◌, ℕ, ◌-◌, ◌<◌, ◌≤◌, min, Bool, true, false, ◌&&◌, ◌||◌, List, [], ◌∷◌, length, take, sym, refl, ap, ◌∙◌, subst, ap₂, arith}
+use Rattle.std.proofs.Common.{◌≡◌, ℕ, ◌-◌, ◌<◌, ◌≤◌, min, Bool, true, false, ◌&&◌, List, [], ◌∷◌, length, take, sym, refl, ap, ◌∙◌, subst, ap₂, arith}
 use native.Mathlib.Nat.{sub-zero}
 use Rattle.std.proofs.lemmas.Bool.{both_ways}
 use Rattle.boxes.specs.declared.cell_box.CellBox.{CellBox}
 use Rattle.boxes.specs.Banded.{Span}
-use Rattle.boxes.specs.Bands.{Apart, flat, in_spans}
+use Rattle.boxes.specs.Bands.{Apart, in_spans}
 use Rattle.boxes.specs.Strips.{add_band, outline, stretched}
 use Rattle.boxes.proofs.Adding.{painted_add, painted_none}
 use Rattle.boxes.proofs.Outlines.{outline_add}
@@ -16,7 +16,7 @@ use Rattle.region.specs.Places.{turn_of}
 use Rattle.region.specs.Rows.{Merged, spans}
 use Rattle.region.specs.Sets.{keeps, kept}
 use Rattle.region.specs.Sweeps.{Painting, Strip}
-use Rattle.region.specs.Works.{Adds, Holds}
+use Rattle.region.specs.Works.{Adds}
 use Rattle.region.proofs.Strips.{At, Sorted, at_row, shown_runs}
 
 -- a row with cells of one list only is kept as it is, or not at all

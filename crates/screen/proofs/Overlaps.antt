@@ -1,5 +1,5 @@
 -- A row of four cells, whose first three are copied one to the right.
-use Rattle.std.proofs.Common.{◌≡◌, ℕ, suc, cond, leb, List, [], ◌∷◌, length, get_or, take, Some, None, Ok, Err, Result, sym, refl, ap, ◌∙◌, arith, lit<, MatchResult}
+use Rattle.std.proofs.Common.{◌≡◌, ℕ, suc, cond, leb, List, ◌∷◌, length, get_or, take, Some, None, Ok, Err, Result, sym, ap, ◌∙◌, arith, lit<, MatchResult}
 use Rattle.std.proofs.lemmas.List.{ext_get_or, get_or-take, length-take-le}
 use Rattle.std.proofs.lemmas.Bool.{cases_eq}
 use Rattle.std.specs.Result.{result_err}

@@ -1,9 +1,9 @@
 -- Painting row by row.
-use Rattle.std.proofs.Common.{◌≡◌, ℕ, ◌+◌, ◌-◌, ◌*◌, ◌<◌, ◌≤◌, Bool, true, false, cond, ◌||◌, List, length, get_or, sym, refl, ap, ◌∙◌, subst, mul_comm, arith}
+use Rattle.std.proofs.Common.{◌≡◌, ℕ, ◌+◌, ◌-◌, ◌*◌, ◌<◌, ◌≤◌, Bool, true, false, cond, List, get_or, sym, refl, ap, ◌∙◌, subst, mul_comm, arith}
 use Rattle.std.proofs.lemmas.Bool.{cond-false}
 use Rattle.std.proofs.lemmas.Bool.Decides.{nat_tests}
 use Rattle.screen.specs.declared.rect.Rect.{Rect}
-use Rattle.screen.specs.Rects.{within, holds, is_empty, Cut}
+use Rattle.screen.specs.Rects.{holds, is_empty, Cut}
 use Rattle.screen.specs.Paints.{cell, block_cell, source_cell, Copyable, Shows}
 use Rattle.screen.specs.Runs.{laid, Run}
 use Rattle.screen.proofs.Places.{top_rows, last_rows, one_row, uncut, rows_apart}

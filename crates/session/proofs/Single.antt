@@ -1,7 +1,7 @@
 -- A list of one call has one answer.
 use Rattle.std.proofs.Common.{◌≡◌, List, [], ◌∷◌, ◌++◌, map, subst}
 use Rattle.line.specs.Rules.{State}
-use Rattle.transfer.specs.Runs.{Act, Reply, Answered, Ran, act, reply}
+use Rattle.transfer.specs.Runs.{Act, Answered, Ran, act, reply}
 use Rattle.transfer.specs.declared.calls.Answer.{Answer}
 use Rattle.transfer.specs.declared.calls.Call.{Call}
 

@@ -1,7 +1,7 @@
 -- Every run conserves the bytes.
 use Rattle.std.proofs.Common.{◌≡◌, ℕ, ◌+◌, ◌-◌, ◌<◌, ◌≤◌, min, List, [], ◌∷◌, ◌++◌, map, length, get_or, take, drop, sym, refl, ap, ◌∙◌, subst, arith}
 use Rattle.std.proofs.lemmas.List.{append_assoc, append-nil, length-take-le, take_at, take_all, take-append-drop, take-map, length-map, map_more, map_push}
-use Rattle.line.specs.Rules.{State, Within, Wrote, Read, Flushed}
+use Rattle.line.specs.Rules.{State, Within, Read}
 use Rattle.transfer.specs.declared.calls.Answer.{Answer}
 use Rattle.transfer.specs.declared.calls.Call.{Call}
 use Rattle.transfer.specs.Runs.{Act, write, read, flush, Reply, took, gave, done, Answered, Ran, Received, taken_in, given_in, taken, given, act, reply, Conserved, Stopped}

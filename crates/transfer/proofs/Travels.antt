@@ -1,10 +1,10 @@
 -- A byte string under way: every round brings it further, and the rounds add up.
 use Rattle.std.proofs.Common.{◌≡◌, ℕ, suc, ◌+◌, ◌-◌, ◌<◌, ◌≤◌, min, List, [], ◌∷◌, ◌++◌, length, take, drop, sym, refl, ap, ◌∙◌, subst, add-zero, zero-add, arith, take-add}
 use borrow.Rule.Slice.PartMut.{put_mid}
-use Rattle.std.proofs.lemmas.List.{append_assoc, append-nil, drop_all, drop-append-le, drop_at, drop-drop, length-append, length-drop, length-take, length-take-le, nil_from_length, take_all, take-append-drop, take-append-le, take_at, take_rest, same_lists, places}
+use Rattle.std.proofs.lemmas.List.{append_assoc, drop_all, drop-append-le, drop_at, drop-drop, length-append, length-drop, length-take, length-take-le, take_all, take-append-drop, take_at, take_rest, same_lists, places}
 use Rattle.line.specs.Rules.{State, Within, Opens, Wrote, Read, Flushed}
 use Rattle.transfer.specs.Runs.{Ran, Received, write, flush, took, done}
-use Rattle.transfer.specs.Rounds.{Round, Rounds, Advanced, Carried}
+use Rattle.transfer.specs.Rounds.{Rounds, Advanced, Carried}
 
 -- How far a line has come: it has taken `sent` of the bytes and given `got` of those, which lie at
 -- the start of the memory `into`.

@@ -1,6 +1,5 @@
-use Rattle.std.proofs.Common.{◌≡◌, ℕ, List, ◌++◌, vec_items, codes, arith}
+use Rattle.std.proofs.Common.{vec_items, codes, arith}
 use Rattle.std.proofs.lemmas.Option.{MatchOption-at_some}
-use Rattle.notation.specs.Hex.{Bytes, hex_of}
 use Rattle.command.proofs.Forms.{no_sixteen}
 use Rattle.command.proofs.pixels.recognize.Goals as goal
 

@@ -1,4 +1,4 @@
-use Rattle.std.proofs.Common.{◌+◌, List, [], map, take, vec_items, sym, refl, ap, ◌∙◌, subst, arith}
+use Rattle.std.proofs.Common.{◌+◌, List, [], map, take, vec_items, sym, refl, subst, arith}
 use Rattle.std.proofs.lemmas.Result.{MatchResult-from_err, IfOk-from_err}
 use Rattle.line.specs.Rules.{seen}
 use Rattle.transfer.specs.declared.calls.Answer.{Answer}

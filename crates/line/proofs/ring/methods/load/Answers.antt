@@ -1,4 +1,3 @@
-use Rattle.std.proofs.Common.{arith}
 use Rattle.line.proofs.Around.{loaded}
 use Rattle.line.proofs.ring.methods.load.Goals as goal
 

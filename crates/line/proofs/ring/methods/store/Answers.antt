@@ -1,4 +1,3 @@
-use Rattle.std.proofs.Common.{arith}
 use Rattle.line.proofs.Around.{stored}
 use Rattle.line.proofs.ring.methods.store.Goals as goal
 

@@ -1,4 +1,4 @@
-use Rattle.std.proofs.Common.{◌≡◌, ℕ, ◌<◌, ◌≤◌, Bool, cond, sym, ap, ◌∙◌, subst, ap₂, arith}
+use Rattle.std.proofs.Common.{◌≡◌, ℕ, ◌<◌, ◌≤◌, cond, sym, ap, ◌∙◌, subst, ap₂, arith}
 use Rattle.boxes.specs.Strips.{Drawn}
 use Rattle.region.specs.Rows.{add_run, edge_of, runs_of, start_of}
 use Rattle.region.specs.Sets.{keeps}
