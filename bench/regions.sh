@@ -55,13 +55,13 @@ cut -d: -f1 crates.txt | while read -r crate; do
 done
 mkdir -p crates/bench_regions/src
 cp "$bench/regions.rattle" crates/bench_regions/src/lib.rt
-echo "bench_regions: screen boxes region" >>crates.txt
+echo "bench_regions staticlib: screen boxes region" >>crates.txt
 
 echo "regions: proving and building; the first time takes some minutes" >&2
-quietly "not proved or not built" rt staticlib bench_regions
+(cd crates/bench_regions && quietly "not proved or not built" rt lib)
 # shellcheck disable=SC2046
 quietly "not compiled" gcc -std=c11 -O2 -Wall -Wextra $(pkg-config --cflags pixman-1) "$bench/regions.c" \
-    target/staticlib/libbench_regions.a $(pkg-config --libs pixman-1) -o regions
+    crates/bench_regions/out/libbench_regions.a $(pkg-config --libs pixman-1) -o regions
 
 # Calls into pixman are bound before it starts, so that no turn pays for that.
 echo "regions: counting" >&2
