@@ -1,14 +1,15 @@
 #!/bin/sh
 # Counts the instructions of operations on regions, ours beside pixman's, by callgrind.
 #   bench/regions.sh
-# The crates that `region` is made of are copied to target/bench/, proved there with the exports of
-# bench/regions.rattle, and linked with pixman into the program of bench/regions.c, which says how an
-# operation is measured. The first run takes some minutes. It fails where our boxes are not pixman's
-# and where an operation takes more instructions than its target.
+# The crates that `region` is made of are copied to a folder of their own outside the repository, proved
+# there with the exports of bench/regions.rattle, and linked with pixman into the program of
+# bench/regions.c, which says how an operation is measured. A run takes some minutes. It fails where our
+# boxes are not pixman's and where an operation takes more instructions than its target.
 set -eu
 top=$(cd "$(dirname "$0")/.." && pwd)
 bench=$top/bench
-room=$top/target/bench
+room=$(mktemp -d)
+trap 'rm -rf "$room"' EXIT
 
 fail() {
     echo "regions: $*" >&2
@@ -20,8 +21,8 @@ quietly() {
     what=$1
     shift
     "$@" >"$room/log" 2>&1 && return
-    tail -n 20 "$room/log" >&2
-    fail "$what; the whole of it is in target/bench/log"
+    tail -n 40 "$room/log" >&2
+    fail "$what"
 }
 
 has_header() { echo "#include <$1>" | gcc -E -x c -o /dev/null - 2>/dev/null; }
@@ -43,9 +44,7 @@ lines_of() {
     grep "^$1:" "$top/crates.txt"
 }
 
-mkdir -p "$room"
 cd "$room"
-rm -rf crates counts*
 lines_of region | awk '!seen[$0]++' >crates.txt
 cut -d: -f1 crates.txt | while read -r crate; do
     mkdir -p "crates/$crate"
@@ -57,7 +56,7 @@ mkdir -p crates/bench_regions/src
 cp "$bench/regions.rattle" crates/bench_regions/src/lib.rt
 echo "bench_regions staticlib: screen boxes region" >>crates.txt
 
-echo "regions: proving and building; the first time takes some minutes" >&2
+echo "regions: proving and building; this takes some minutes" >&2
 (cd crates/bench_regions && quietly "not proved or not built" rt lib)
 # shellcheck disable=SC2046
 quietly "not compiled" gcc -std=c11 -O2 -Wall -Wextra $(pkg-config --cflags pixman-1) "$bench/regions.c" \
