@@ -19,8 +19,8 @@ use Rattle.command.specs.declared.regions.Change.{Change}
 use Rattle.command.specs.declared.regions.Change.TheVariants.{Empty, ByRect, ByRegion}
 use Rattle.command.specs.declared.regions.Name.{Name}
 use Rattle.command.specs.declared.regions.Name.TheVariants.{A, B}
-use Rattle.command.specs.declared.regions.Operation.{Operation}
-use Rattle.command.specs.declared.regions.Operation.TheVariants.{Join, Cut, Away}
+use Rattle.region.specs.declared.operation.Operation.{Operation}
+use Rattle.region.specs.declared.operation.Operation.TheVariants.{Join, Cut, Away}
 
 abbrev rect_says : List ℕ → Rect
 rect_says text =

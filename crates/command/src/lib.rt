@@ -13,7 +13,8 @@ mod words;
 use lines::{carry, flush, line, queue, read, write};
 use pixel::Format;
 use pixels::{describe, pixel, recognize};
-pub use regions::{Change, Name, Operation, RegionCommand, parse_region};
+pub use region::Operation;
+pub use regions::{Change, Name, RegionCommand, parse_region};
 use std::alloc::{AllocError, Global};
 
 #[derive(Clone, Copy)]

@@ -6,6 +6,7 @@ ghost use Rattle.std.specs.Prelude.{◌≡◌, ℕ, List, MatchOption, ◌≢◌
 
 use super::words::{split_word, strip};
 use notation::{is_word, parse_number};
+use region::Operation;
 use screen::Rect;
 
 // A short number is at most so great.
@@ -16,14 +17,6 @@ const SHORT_LIMIT: usize = 65535;
 pub enum Name {
     A,
     B,
-}
-
-// `join`, `cut` or `away`
-#[derive(Clone, Copy)]
-pub enum Operation {
-    Join,
-    Cut,
-    Away,
 }
 
 // What is done to a region.

@@ -1,14 +1,14 @@
 -- The regions that the console keeps, by their names.
-use Rattle.std.specs.Prelude.{◌≡◌, ℕ, Bool, not, ◌&&◌, ◌||◌, []}
+use Rattle.std.specs.Prelude.{◌≡◌, ℕ, Bool, []}
 use Rattle.boxes.specs.Cells.{has, of_rect}
 use Rattle.boxes.specs.Regions.{RegionOf}
 use Rattle.command.specs.declared.regions.Change.{Change}
 use Rattle.command.specs.declared.regions.Change.TheVariants.{Empty, ByRect, ByRegion}
 use Rattle.command.specs.declared.regions.Name.{Name}
 use Rattle.command.specs.declared.regions.Name.TheVariants.{A, B}
-use Rattle.command.specs.declared.regions.Operation.{Operation}
-use Rattle.command.specs.declared.regions.Operation.TheVariants.{Join, Cut, Away}
+use Rattle.region.specs.declared.operation.Operation.{Operation}
 use Rattle.region.specs.Held.{held}
+use Rattle.region.specs.Sets.{keeps}
 use Rattle.region.specs.declared.regions.Region.{Region}
 use Rattle.console.specs.declared.regions.Regions.{Regions}
 
@@ -23,9 +23,7 @@ replaced B region regions = record { a = regions.a; b = region }
 
 -- what an operation makes of two sets of cells
 abbrev pub combined_cells : Operation → (ℕ → ℕ → Bool) → (ℕ → ℕ → Bool) → ℕ → ℕ → Bool
-combined_cells Join c d x y = c x y || d x y
-combined_cells Cut c d x y = c x y && d x y
-combined_cells Away c d x y = c x y && not (d x y)
+combined_cells operation c d x y = keeps operation (c x y) (d x y)
 
 -- what a change makes of the region of that name
 abbrev pub Changed : Change → Name → Regions → Region → Type 0

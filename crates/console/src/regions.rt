@@ -1,12 +1,10 @@
 // The regions that commands are about: empty at first.
-ghost use Rattle.boxes.specs.Cells.{has};
-ghost use Rattle.boxes.specs.Regions.{RegionOf};
-ghost use Rattle.console.specs.Kept.{Changed, combined_cells, region_named, replaced};
+ghost use Rattle.console.specs.Kept.{Changed, region_named, replaced};
 ghost use Rattle.region.specs.Held.{held};
 ghost use Rattle.session.specs.Boxes.{boxes_words};
 ghost use Rattle.std.specs.Prelude.{◌≡◌, [], IfOk, string_bytes};
 
-use command::{Change, Name, Operation};
+use command::{Change, Name};
 use region::Region;
 use session::say_boxes;
 use std::alloc::{AllocError, Global};
@@ -69,22 +67,8 @@ impl Regions {
         let region = self.named(name);
         match change {
             Change::Empty => Region::empty(),
-            Change::ByRect(operation, rect) => combined(
-                region,
-                operation,
-                &Region::from_rect(rect),
-            ),
-            Change::ByRegion(operation, other) => combined(region, operation, self.named(other)),
+            Change::ByRect(operation, rect) => region.combine(operation, &Region::from_rect(rect)),
+            Change::ByRegion(operation, other) => region.combine(operation, self.named(other)),
         }
-    }
-}
-
-fn combined(region: &Region, operation: Operation, other: &Region) -> Region
-    ensures { RegionOf (combined_cells operation (has (held region.now)) (has (held other.now))) (held result) }
-{
-    match operation {
-        Operation::Join => region.join(other),
-        Operation::Cut => region.cut(other),
-        Operation::Away => region.take_away(other),
     }
 }

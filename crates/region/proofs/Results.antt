@@ -15,8 +15,8 @@ use Rattle.boxes.proofs.One.{worked}
 use Rattle.boxes.proofs.Outlines.{outline_covering}
 use Rattle.boxes.proofs.Rules.{box_banded, from_bands, to_bands}
 use Rattle.boxes.proofs.Unique.{or_false}
-use Rattle.region.specs.declared.op.Op.{Op}
-use Rattle.region.specs.declared.op.Op.TheVariants.{Join, Cut, TakeAway}
+use Rattle.region.specs.declared.operation.Operation.{Operation}
+use Rattle.region.specs.declared.operation.Operation.TheVariants.{Join, Cut, Away}
 use Rattle.region.specs.declared.work.Work.{Work}
 use Rattle.region.specs.Sets.{keeps, kept}
 use Rattle.region.specs.Sweeps.{Painting}
@@ -38,7 +38,7 @@ largest_is_on bs x y b = go (has bs x y) refl
         let s = stack_seen k.bands x y k.stack (sym (ap (λ l. has l x y) k.boxes) ∙ e) in
         sym (seen_largest x y s.0 s.1)
 
-keeps_largest : (op : Op) (a b o : Bool) → a ≡ (a && o) → b ≡ (b && o) → (keeps op a b && o) ≡ keeps op a b
+keeps_largest : (op : Operation) (a b o : Bool) → a ≡ (a && o) → b ≡ (b && o) → (keeps op a b && o) ≡ keeps op a b
 keeps_largest op a b true p q = and_true (keeps op a b)
 keeps_largest op a b false p q =
     let off : a ≡ false = p ∙ nothing a in
@@ -49,12 +49,12 @@ keeps_largest op a b false p q =
     nothing true = refl
     nothing false = refl
 
-    none_kept : (op : Op) → keeps op false false ≡ false
+    none_kept : (op : Operation) → keeps op false false ≡ false
     none_kept Join = refl
     none_kept Cut = refl
-    none_kept TakeAway = refl
+    none_kept Away = refl
 
-module _ (op : Op) (ps qs : List CellBox) (p : Banded ps) (q : Banded qs) (w : Work) (d : Painting (kept op ps qs) 256 w) where
+module _ (op : Operation) (ps qs : List CellBox) (p : Banded ps) (q : Banded qs) (w : Work) (d : Painting (kept op ps qs) 256 w) where
   exact_banded : Banded (flat d.bands)
   exact_banded = from_bands (flat d.bands) (record { bands = d.bands; boxes = refl; stack = d.painted.stack })
 

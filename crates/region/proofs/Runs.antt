@@ -10,8 +10,8 @@ use Rattle.boxes.specs.Regions.{no_box}
 use Rattle.boxes.specs.Strips.{Drawn}
 use Rattle.boxes.proofs.Drawing.{apart_from, drawn_pass}
 use Rattle.boxes.proofs.Unique.{drop_head, head_before, head_in}
-use Rattle.region.specs.declared.op.Op.{Op}
-use Rattle.region.specs.declared.op.Op.TheVariants.{Join, Cut, TakeAway}
+use Rattle.region.specs.declared.operation.Operation.{Operation}
+use Rattle.region.specs.declared.operation.Operation.TheVariants.{Join, Cut, Away}
 use Rattle.region.specs.Rows.{Fits, Merged, add_run, edge_of, on_run, past_run, spans, start_of}
 use Rattle.region.specs.Sets.{keeps}
 use Rattle.region.proofs.Adding.{drawn_add}
@@ -133,10 +133,10 @@ along_past bs at x e a g h top =
     })
 
 -- what an operation keeps of two rows
-abbrev pub kept_row : Op → List CellBox → List CellBox → ℕ → Bool
+abbrev pub kept_row : Operation → List CellBox → List CellBox → ℕ → Bool
 kept_row op ps qs v = keeps op (in_spans (spans ps) v) (in_spans (spans qs) v)
 
-module _ (op : Op) (ps qs : List CellBox) (a : Apart 0 (spans ps)) (b : Apart 0 (spans qs)) where
+module _ (op : Operation) (ps qs : List CellBox) (a : Apart 0 (spans ps)) (b : Apart 0 (spans qs)) where
   -- a step of the sweep along two rows
   pub merge_steady :
       (i j x e v : ℕ) → Along ps i x → Along qs j x → e ≤ edge_of ps i x → e ≤ edge_of qs j x → x ≤ v → v < e
@@ -155,13 +155,13 @@ pub drawn_fits : (c : ℕ → Bool) (x : ℕ) (ss : List Span) → Drawn c x ss 
 drawn_fits c x ss d h = record { apart = d.apart; near = d.near; inside = h }
 
 -- at first nothing is drawn, and what is drawn in the end is the row
-none_kept : (op : Op) → keeps op false false ≡ false
+none_kept : (op : Operation) → keeps op false false ≡ false
 none_kept Join = refl
 none_kept Cut = refl
-none_kept TakeAway = refl
+none_kept Away = refl
 
 pub drawn_start :
-    (op : Op) (ps qs : List CellBox) (x : ℕ) → Apart 0 (spans ps) → Apart 0 (spans qs) → x ≤ start_of ps → x ≤ start_of qs → Drawn (kept_row op ps qs) x []
+    (op : Operation) (ps qs : List CellBox) (x : ℕ) → Apart 0 (spans ps) → Apart 0 (spans qs) → x ≤ start_of ps → x ≤ start_of qs → Drawn (kept_row op ps qs) x []
 drawn_start op ps qs x a b h k =
     record {
       apart = tt;
@@ -170,7 +170,7 @@ drawn_start op ps qs x a b h k =
     }
 
 pub drawn_merged :
-    (op : Op) (ps qs : List CellBox) (i j x : ℕ) (ss : List Span) → Along ps i x → Along qs j x → length ps ≤ i → length qs ≤ j
+    (op : Operation) (ps qs : List CellBox) (i j x : ℕ) (ss : List Span) → Along ps i x → Along qs j x → length ps ≤ i → length qs ≤ j
     → Drawn (kept_row op ps qs) x ss → Merged op (spans ps) (spans qs) ss
 drawn_merged op ps qs i j x ss g h over over' d =
     record {

@@ -6,7 +6,7 @@ use Rattle.boxes.specs.Bands.{Apart, in_spans}
 use Rattle.boxes.specs.Regions.{no_box}
 use Rattle.boxes.specs.Strips.{limit}
 use Rattle.region.specs.Sets.{keeps}
-use Rattle.region.specs.declared.op.Op.{Op}
+use Rattle.region.specs.declared.operation.Operation.{Operation}
 use Rattle.region.specs.declared.row.Row.{Row}
 
 -- boxes as runs
@@ -49,6 +49,6 @@ abbrev pub past_run : List CellBox → ℕ → ℕ → ℕ
 past_run bs at x = cond (nat_lt at (length bs) && nat_le (slice_index_or bs at no_box).right x) (at + 1) at
 
 -- the runs are those of what an operation keeps of two rows
-pub record Merged (op : Op) (ps qs row : List Span) : Type 0 where
+pub record Merged (operation : Operation) (ps qs row : List Span) : Type 0 where
   pub apart : Apart 0 row
-  pub cells : (x : ℕ) → x < 256 → in_spans row x ≡ keeps op (in_spans ps x) (in_spans qs x)
+  pub cells : (x : ℕ) → x < 256 → in_spans row x ≡ keeps operation (in_spans ps x) (in_spans qs x)

@@ -5,13 +5,13 @@ use Rattle.boxes.specs.Bands.{Band, flat}
 use Rattle.boxes.specs.Strips.{Painted, outline, stretched}
 use Rattle.region.specs.Rows.{Merged}
 use Rattle.region.specs.Works.{Adds, Holds}
-use Rattle.region.specs.declared.op.Op.{Op}
+use Rattle.region.specs.declared.operation.Operation.{Operation}
 use Rattle.region.specs.declared.work.Work.{Work}
 
 -- w' is w with the rows t to e of an operation on two rows added
-pub record Strip (op : Op) (t e : ℕ) (ps qs : List Span) (w w' : Work) : Type 0 where
+pub record Strip (operation : Operation) (t e : ℕ) (ps qs : List Span) (w w' : Work) : Type 0 where
   pub row : List Span
-  pub merged : Merged op ps qs row
+  pub merged : Merged operation ps qs row
   pub adds : Adds t e row w w'
   pub hull : w'.hull ≡ stretched t e row w.hull
 

@@ -1,11 +1,12 @@
 // Regions: sets of cells, as at most 32 boxes in banded form.
 #![tactic(auto)]
 
-mod op;
+mod operation;
 mod place;
 mod regions;
 mod row;
 mod sweep;
 mod work;
 
+pub use operation::Operation;
 pub use regions::{Corner, Region, two_squares};

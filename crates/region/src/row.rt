@@ -4,7 +4,7 @@ ghost use Rattle.boxes.specs.Bands.{Apart};
 ghost use Rattle.region.specs.Rows.{Fits, Merged, add_run, edge_of, ends_at, on_run, past_run, runs_of, spans, start_of};
 ghost use Rattle.std.specs.Prelude.{◌≡◌, ◌≤◌, if◌then◌else◌};
 
-use crate::op::Op;
+use crate::operation::Operation;
 use boxes::CellBox;
 
 // The first `count` of `runs`, from left to right. No two touch, so 128 is room for any row.
@@ -75,17 +75,17 @@ impl Row {
     }
 
     // Becomes the row of what the operation keeps of two rows, each given by its runs.
-    pub(crate) fn merge(&mut self, op: Op, first: &[CellBox], second: &[CellBox])
+    pub(crate) fn merge(&mut self, operation: Operation, first: &[CellBox], second: &[CellBox])
         requires { (Apart 0 (spans first.now)) × (Apart 0 (spans second.now)) }
         ensures count { self.new.count ≤ 128 }
-        ensures merged { Merged op (spans first.now) (spans second.now) (runs_of self.new) }
+        ensures merged { Merged operation (spans first.now) (spans second.now) (runs_of self.new) }
     {
         let (mut i, mut j) = (0, 0);
         let mut x = start(first).min(start(second));
         self.count = 0;
         while i < first.len() || j < second.len() {
             let next = edge(first, i, x).min(edge(second, j, x));
-            let kept = op.keep(begun(first, i, x), begun(second, j, x));
+            let kept = operation.keep(begun(first, i, x), begun(second, j, x));
             self.draw(kept, x, next);
             i = past(first, i, next);
             j = past(second, j, next);

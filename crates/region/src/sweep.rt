@@ -8,7 +8,7 @@ ghost use Rattle.region.specs.Sets.{kept};
 ghost use Rattle.region.specs.Sweeps.{Painting, Strip};
 ghost use Rattle.region.specs.Works.{Sound};
 
-use crate::op::Op;
+use crate::operation::Operation;
 use crate::place::Place;
 use crate::row::Row;
 use crate::work::Work;
@@ -16,7 +16,7 @@ use boxes::CellBox;
 
 // Draws the rows from `top` up to `bottom`, in which the two lists have these runs.
 fn strip(
-    op: Op,
+    operation: Operation,
     top: u16,
     bottom: u16,
     first: &[CellBox],
@@ -28,28 +28,28 @@ fn strip(
     requires second { Apart 0 (spans second.now) }
     requires work { Sound work.old }
     ensures sound { Sound work.new }
-    ensures drawn { Strip op top bottom (spans first.now) (spans second.now) work.old work.new }
+    ensures drawn { Strip operation top bottom (spans first.now) (spans second.now) work.old work.new }
 {
     if second.len() == 0 {
-        if op.keep(true, false) {
+        if operation.keep(true, false) {
             work.add(top, bottom, first);
         }
         return;
     }
     if first.len() == 0 {
-        if op.keep(false, true) {
+        if operation.keep(false, true) {
             work.add(top, bottom, second);
         }
         return;
     }
-    row.merge(op, first, second);
+    row.merge(operation, first, second);
     work.add(top, bottom, &row.runs[0..row.count]);
 }
 
 // Draws what the operation keeps of two lists.
-pub(crate) fn sweep(op: Op, first: &[CellBox], second: &[CellBox]) -> Work
+pub(crate) fn sweep(operation: Operation, first: &[CellBox], second: &[CellBox]) -> Work
     requires { (Banded first.now) × (Banded second.now) }
-    ensures { Painting (kept op first.now second.now) 256 result }
+    ensures { Painting (kept operation first.now second.now) 256 result }
 {
     let mut work = Work::new();
     let mut row = Row::new();
@@ -59,7 +59,7 @@ pub(crate) fn sweep(op: Op, first: &[CellBox], second: &[CellBox]) -> Work
     while y < 256 {
         let next = p.turn(first, y).min(q.turn(second, y));
         let (runs, others) = (p.shown(first, y), q.shown(second, y));
-        strip(op, y, next, runs, others, &mut row, &mut work);
+        strip(operation, y, next, runs, others, &mut row, &mut work);
         p = p.past(first, next);
         q = q.past(second, next);
         y = next;

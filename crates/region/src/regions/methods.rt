@@ -11,7 +11,7 @@ ghost use Rattle.screen.specs.Rects.{holds, on_screen};
 ghost use Rattle.std.specs.Prelude.{◌≡◌, ℕ, ◌+◌, ◌-◌, ◌≤◌, min, true, false, ◌&&◌, [], ◌∷◌, map, length, Decides};
 
 use super::{Corner, Region};
-use crate::op::Op;
+use crate::operation::Operation;
 use crate::sweep::sweep;
 use boxes::CellBox;
 use screen::Rect;
@@ -23,21 +23,6 @@ fn single(b: CellBox) -> Region
 {
     let boxes = [b; 32];
     Region { boxes, count: 1 }
-}
-
-// What the operation keeps of two regions.
-fn combine(op: Op, first: &Region, second: &Region) -> Region
-    ensures { RegionOf (kept op (held first.now) (held second.now)) (held result) }
-{
-    let work = sweep(op, first.boxes(), second.boxes());
-    if work.over {
-        return single(work.hull);
-    }
-    let boxes = work.boxes;
-    Region {
-        boxes,
-        count: work.count,
-    }
 }
 
 // Whether one of the boxes has a cell in common with another box.
@@ -158,25 +143,40 @@ impl Region {
         }
     }
 
+    // What the operation keeps of two regions.
+    pub fn combine(&self, operation: Operation, other: &Region) -> Region
+        ensures { RegionOf (kept operation (held self.now) (held other.now)) (held result) }
+    {
+        let work = sweep(operation, self.boxes(), other.boxes());
+        if work.over {
+            return single(work.hull);
+        }
+        let boxes = work.boxes;
+        Region {
+            boxes,
+            count: work.count,
+        }
+    }
+
     // The cells of either region.
     pub fn join(&self, other: &Region) -> Region
         ensures { RegionOf (either (held self.now) (held other.now)) (held result) }
     {
-        combine(Op::Join, self, other)
+        self.combine(Operation::Join, other)
     }
 
     // The cells of both regions.
     pub fn cut(&self, other: &Region) -> Region
         ensures { RegionOf (both (held self.now) (held other.now)) (held result) }
     {
-        combine(Op::Cut, self, other)
+        self.combine(Operation::Cut, other)
     }
 
     // The cells that are not the other's.
     pub fn take_away(&self, other: &Region) -> Region
         ensures { RegionOf (but_not (held self.now) (held other.now)) (held result) }
     {
-        combine(Op::TakeAway, self, other)
+        self.combine(Operation::Away, other)
     }
 
     // The cells of a screen of `width` × `height`, as far as they are on the largest.

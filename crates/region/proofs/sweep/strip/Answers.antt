@@ -7,7 +7,7 @@ returns-then-keep c =
     let add = c.add.ensures in
     record {
       sound = add.sound;
-      drawn = strip_first c.args.op c.args.top c.args.bottom c.args.first.now c.args.second.now c.args.work.now c.add.new.self
+      drawn = strip_first c.args.operation c.args.top c.args.bottom c.args.first.now c.args.second.now c.args.work.now c.add.new.self
           c.if-second-eq0.true c.requires.first c.if-keep.ensures add.adds add.hull;
     }
 
@@ -15,7 +15,7 @@ pub returns-else-keep : goal.returns-else-keep
 returns-else-keep c =
     record {
       sound = c.requires.work;
-      drawn = strip_no_first c.args.op c.args.top c.args.bottom c.args.first.now c.args.second.now c.args.work.now c.if-second-eq0.true
+      drawn = strip_no_first c.args.operation c.args.top c.args.bottom c.args.first.now c.args.second.now c.args.work.now c.if-second-eq0.true
           c.if-keep.ensures;
     }
 
@@ -24,7 +24,7 @@ returns-then-keep-2 c =
     let add = c.add-then-keep-2.ensures in
     record {
       sound = add.sound;
-      drawn = strip_second c.args.op c.args.top c.args.bottom c.args.first.now c.args.second.now c.args.work.now c.add-then-keep-2.new.self
+      drawn = strip_second c.args.operation c.args.top c.args.bottom c.args.first.now c.args.second.now c.args.work.now c.add-then-keep-2.new.self
           c.if-first-eq0.true c.requires.second c.if-keep-2.ensures add.adds add.hull;
     }
 
@@ -32,7 +32,7 @@ pub returns-else-keep-2 : goal.returns-else-keep-2
 returns-else-keep-2 c =
     record {
       sound = c.requires.work;
-      drawn = strip_no_second c.args.op c.args.top c.args.bottom c.args.first.now c.args.second.now c.args.work.now c.if-first-eq0.true
+      drawn = strip_no_second c.args.operation c.args.top c.args.bottom c.args.first.now c.args.second.now c.args.work.now c.if-first-eq0.true
           c.if-keep-2.ensures;
     }
 
@@ -42,6 +42,6 @@ returns c =
     let add = c.add-2.ensures in
     record {
       sound = add.sound;
-      drawn = strip_both c.args.op c.args.top c.args.bottom row.count (spans c.args.first.now) (spans c.args.second.now) row.runs c.args.work.now
+      drawn = strip_both c.args.operation c.args.top c.args.bottom row.count (spans c.args.first.now) (spans c.args.second.now) row.runs c.args.work.now
           c.add-2.new.self c.merge.ensures.merged add.adds add.hull;
     }

@@ -17,7 +17,7 @@ loop-y-init c =
       (omega arith, omega arith),
       subst (λ p. At ps p 0) (sym c.new-p.ensures) (at_start ps (sorted ps c.requires.0)),
       subst (λ p. At qs p 0) (sym c.new-q.ensures) (at_start qs (sorted qs c.requires.1)),
-      painting_none (kept c.args.op ps qs) c.new-work.result w.0 w.1 w.2 w.3,
+      painting_none (kept c.args.operation ps qs) c.new-work.result w.0 w.1 w.2 w.3,
     )
 
 pub shown-runs-requires : goal.shown-runs-requires
@@ -68,12 +68,12 @@ loop-y-preserved c =
     let n = next_turn (turn_of ps l.p l.y) (turn_of qs l.q l.y) l.y e (c.min-next.ensures ∙ ap₂ min c.turn.ensures c.turn-in-loop-y.ensures)
     (at_turn ps l.p l.y sp l.invariant.2 c.loop-y-test.true)
     (at_turn qs l.q l.y sq l.invariant.3 c.loop-y-test.true) in
-    let drawn : Strip c.args.op l.y e (shown_runs ps l.p l.y) (shown_runs qs l.q l.y) l.work c.strip.new.work =
-    subst₂ (λ p q. Strip c.args.op l.y e (spans p) (spans q) l.work c.strip.new.work) c.shown-runs.ensures c.shown-others.ensures c.strip.ensures.drawn in (
+    let drawn : Strip c.args.operation l.y e (shown_runs ps l.p l.y) (shown_runs qs l.q l.y) l.work c.strip.new.work =
+    subst₂ (λ p q. Strip c.args.operation l.y e (spans p) (spans q) l.work c.strip.new.work) c.shown-runs.ensures c.shown-others.ensures c.strip.ensures.drawn in (
       n.1,
       c.strip.ensures.sound,
       subst (λ p. At ps p e) (sym c.past-p.ensures) (at_past ps l.p l.y e sp l.invariant.2 (omega (arith, n.0)) n.2),
       subst (λ q. At qs q e) (sym c.past-q.ensures) (at_past qs l.q l.y e sq l.invariant.3 (omega (arith, n.0)) n.3),
-      painting_add c.args.op ps qs l.y e (shown_runs ps l.p l.y) (shown_runs qs l.q l.y) l.work c.strip.new.work l.invariant.4 drawn n.0 n.1
-          (λ x v lo hi. rows_kept c.args.op ps qs l.p l.q l.y e x v sp sq l.invariant.2 l.invariant.3 n.2 n.3 lo hi),
+      painting_add c.args.operation ps qs l.y e (shown_runs ps l.p l.y) (shown_runs qs l.q l.y) l.work c.strip.new.work l.invariant.4 drawn n.0 n.1
+          (λ x v lo hi. rows_kept c.args.operation ps qs l.p l.q l.y e x v sp sq l.invariant.2 l.invariant.3 n.2 n.3 lo hi),
     )

@@ -11,7 +11,7 @@ invariant-loop-y l =
     × Sound l.work
     × At l.first l.p l.y
     × At l.second l.q l.y
-    × Painting (kept l.op l.first l.second) l.y l.work
+    × Painting (kept l.operation l.first l.second) l.y l.work
 
 abbrev pub decreases-loop-y : goal.decreases-loop-y
 decreases-loop-y l = 256 - l.y

@@ -17,7 +17,7 @@ loop-i-init c =
       omega arith,
       along_start ps x c.requires.0 first,
       along_start qs x c.requires.1 second,
-      drawn_start c.args.op ps qs x c.requires.0 c.requires.1 first second,
+      drawn_start c.args.operation ps qs x c.requires.0 c.requires.1 first second,
     )
 
 pub loop-i-preserved : goal.loop-i-preserved
@@ -37,14 +37,14 @@ loop-i-preserved c =
     let second : n ≤ edge_of qs l.j l.x = omega (arith, c.min-next.ensures, c.edge-in-loop-i.ensures) in
     let past : l.x < n = omega (arith, c.min-next.ensures, c.edge.ensures, c.edge-in-loop-i.ensures, p.0, q.0) in
     let top : n ≤ 256 = omega (arith, first, p.1) in
-    let kept : c.keep-kept.result ≡ keeps c.args.op _ _ = c.keep-kept.ensures ∙ ap₂ (keeps c.args.op) c.begun.ensures c.begun-in-loop-i.ensures in (
+    let kept : c.keep-kept.result ≡ keeps c.args.operation _ _ = c.keep-kept.ensures ∙ ap₂ (keeps c.args.operation) c.begun.ensures c.begun-in-loop-i.ensures in (
       top,
       c.draw.ensures.count,
       subst (λ k. Along ps k n) (sym c.past-i.ensures) (along_past ps l.i l.x n c.requires.0 l.invariant.2 (omega arith) first),
       subst (λ k. Along qs k n) (sym c.past-j.ensures) (along_past qs l.j l.x n c.requires.1 l.invariant.3 (omega arith) second),
-      subst (Drawn (kept_row c.args.op ps qs) n)
+      subst (Drawn (kept_row c.args.operation ps qs) n)
           (sym (c.draw.ensures.runs ∙ ap (λ b. cond b (add_run l.x n (runs_of l.self)) (runs_of l.self)) kept))
-          (merge_draws c.args.op ps qs c.requires.0 c.requires.1 l.i l.j l.x n (runs_of l.self) l.invariant.2 l.invariant.3 past top first second l.invariant.4),
+          (merge_draws c.args.operation ps qs c.requires.0 c.requires.1 l.i l.j l.x n (runs_of l.self) l.invariant.2 l.invariant.3 past top first second l.invariant.4),
     )
 
 pub draw-requires : goal.draw-requires
@@ -57,7 +57,7 @@ draw-requires c =
       | then-i-first w ↦ along_inside ps l.i l.x c.requires.0 l.invariant.2 w.if-i-first.true
       | else-i-first+then-j-second w ↦ along_inside qs l.j l.x c.requires.1 l.invariant.3 w.if-j-second.true
     ] in
-    (l.invariant.1, drawn_fits (kept_row c.args.op ps qs) l.x (runs_of l.self) l.invariant.4 here)
+    (l.invariant.1, drawn_fits (kept_row c.args.operation ps qs) l.x (runs_of l.self) l.invariant.4 here)
 
 pub loop-i-smaller : goal.loop-i-smaller
 loop-i-smaller c =
@@ -78,6 +78,6 @@ returns c =
     let l = c.loop-i in
     record {
       count = l.invariant.1;
-      merged = drawn_merged c.args.op c.args.first.now c.args.second.now l.i l.j l.x (runs_of l.self) l.invariant.2 l.invariant.3 (omega arith) (omega arith)
+      merged = drawn_merged c.args.operation c.args.first.now c.args.second.now l.i l.j l.x (runs_of l.self) l.invariant.2 l.invariant.3 (omega arith) (omega arith)
           l.invariant.4;
     }

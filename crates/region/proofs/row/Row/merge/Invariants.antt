@@ -10,7 +10,7 @@ invariant-loop-i l =
     × (l.self.count ≤ 128)
     × Along l.first l.i l.x
     × Along l.second l.j l.x
-    × Drawn (kept_row l.op l.first l.second) l.x (runs_of l.self)
+    × Drawn (kept_row l.operation l.first l.second) l.x (runs_of l.self)
 
 abbrev pub decreases-loop-i : goal.decreases-loop-i
 decreases-loop-i l = 256 - l.x
