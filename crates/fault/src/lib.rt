@@ -5,18 +5,19 @@
 ghost use Rattle.fault.specs.Refusals.{number_of};
 ghost use Rattle.std.specs.Prelude.{◌≡◌};
 
-#[derive(Clone, Copy, PartialEq, Eq, Debug)]
+// Each with the number by which it is reported.
+#[derive(Clone, Copy, PartialEq, Eq, Hash, Debug)]
 pub enum Refusal {
     // Memory for a screen does not fit its sides.
-    Size,
+    Size = 1,
     // Memory that was handed over or lent has a length out of range.
-    Memory,
+    Memory = 2,
     // A block of cells is not as long as its rectangle has cells.
-    Block,
+    Block = 3,
     // The source of a copy is not inside the screen.
-    Source,
+    Source = 4,
     // Bytes wait on a line that has to be empty.
-    Waiting,
+    Waiting = 7,
 }
 
 impl Refusal {
@@ -25,13 +26,7 @@ impl Refusal {
         ensures value { result ≡ number_of self }
         ensures alone { (other : Refusal) → number_of other ≡ result → other ≡ self }
     {
-        match self {
-            Refusal::Size => 1,
-            Refusal::Memory => 2,
-            Refusal::Block => 3,
-            Refusal::Source => 4,
-            Refusal::Waiting => 7,
-        }
+        self as u8
     }
 }
 

@@ -13,7 +13,7 @@ mod wide;
 const COLOURS: u32 = 0x1000000;
 
 // Native has 8 bits; the others have 32, in little or big order.
-#[derive(Clone, Copy, PartialEq, Eq, Debug)]
+#[derive(Clone, Copy, PartialEq, Eq, Hash, Debug)]
 pub enum Format {
     Native,
     Little,
@@ -61,7 +61,7 @@ impl Format {
         ensures samples { Samples }
     {
         match self {
-            Format::Native => native as u32,
+            Format::Native => u32::from(native),
             Format::Little | Format::Big => wide::widen(native),
         }
     }
@@ -96,13 +96,11 @@ impl Format {
         ensures value { result ≡ first_pixel self bytes.now }
         ensures used { IfSome result (AllUsed self) }
     {
-        if bytes.len() < self.bytes_per_pixel() {
-            return None;
-        }
-        match self {
-            Format::Native => Some(bytes[0] as u32),
-            Format::Little => Some(raw::colour(bytes[2], bytes[1], bytes[0])),
-            Format::Big => Some(raw::colour(bytes[1], bytes[2], bytes[3])),
+        match (self, bytes) {
+            (Format::Native, [byte, ..]) => Some(u32::from(*byte)),
+            (Format::Little, [blue, green, red, _, ..]) => Some(raw::colour(*red, *green, *blue)),
+            (Format::Big, [_, red, green, blue, ..]) => Some(raw::colour(*red, *green, *blue)),
+            _ => None,
         }
     }
 }

@@ -29,5 +29,5 @@ pub(crate) fn put(bytes: &[u8], out: &mut [u8]) -> Option<usize>
 pub(crate) fn colour(red: u8, green: u8, blue: u8) -> u32
     ensures { result ≡ red * 65536 + green * 256 + blue }
 {
-    red as u32 * 65536 + green as u32 * 256 + blue as u32
+    u32::from_be_bytes([0, red, green, blue])
 }

@@ -38,7 +38,7 @@ const WIDE: [u32; 256] = [
 pub(crate) fn widen(native: u8) -> u32
     ensures { result ≡ widened native }
 {
-    entry(&WIDE, native as usize)
+    entry(&WIDE, usize::from(native))
 }
 
 // The entry of a table of native values.
