@@ -3,6 +3,7 @@ use Rattle.std.proofs.Common.{◌≡◌, ℕ, ◌+◌, ◌*◌, ◌/◌, ◌%◌
 use Rattle.std.proofs.lemmas.List.{same_lists}
 use Rattle.std.proofs.lemmas.Bool.{cases_lt}
 use Rattle.screen.specs.declared.rect.Rect.{Rect}
+use Rattle.screen.specs.declared.sides.Sides.{Sides}
 use Rattle.screen.specs.Paints.{Painted, Shows}
 
 -- a screen with a cell has a column
@@ -25,8 +26,11 @@ row_of w h k l =
 
 -- two memories that show the same are the same
 shown_once :
-    {X : Type 0} (w h : ℕ) (rect : Rect) (new : ℕ → ℕ → X → X) (before a b : List X) → Shows w h rect new before a → Shows w h rect new before b → a ≡ b
-shown_once w h rect new before a b p q =
+    {X : Type 0} (sides : Sides) (rect : Rect) (new : ℕ → ℕ → X → X) (before a b : List X)
+    → Shows sides rect new before a → Shows sides rect new before b → a ≡ b
+shown_once sides rect new before a b p q =
+    let w = sides.width in
+    let h = sides.height in
     same_lists a b (p.size ∙ sym q.size)
     (λ k d l.
     ⊎_elim
@@ -39,6 +43,7 @@ shown_once w h rect new before a b p q =
     (cases_lt k (w * h)))
 
 pub painted :
-    {X : Type 0} (w h : ℕ) (rect : Rect) (new : ℕ → ℕ → X → X) (before after : List X) → Shows w h rect new before after → Painted w h rect new before after
+    {X : Type 0} (sides : Sides) (rect : Rect) (new : ℕ → ℕ → X → X) (before after : List X)
+    → Shows sides rect new before after → Painted sides rect new before after
 unfolding Painted
-painted w h rect new before after shows = (shows, λ other as-well. shown_once w h rect new before other after as-well shows)
+painted sides rect new before after shows = (shows, λ other as-well. shown_once sides rect new before other after as-well shows)
