@@ -1,6 +1,7 @@
-use Rattle.std.proofs.Common.{◌≡◌, ◌+◌, ◌*◌, ◌≤◌, ◌<◌, nat_lt, length, refl, sym, ap, ◌∙◌, arith}
+use Rattle.std.proofs.Common.{◌≡◌, ◌+◌, ◌*◌, ◌≤◌, ◌<◌, nat_lt, length, true, refl, ap, ◌∙◌, arith}
 use Rattle.std.proofs.lemmas.Bool.Decides.{nat_tests}
 use Rattle.screen.specs.Paints.{source_cell}
+use Rattle.screen.specs.Rects.{is_inside}
 use Rattle.screen.proofs.Rows.{no_rows, one_row, all_rows, row_after, row_fits, source_ends, source_row}
 use Rattle.screen.proofs.Runs.{laid, shift_part}
 use Rattle.screen.proofs.paint.copy.Goals as goal
@@ -12,7 +13,8 @@ loop-i-init g c = no_rows c.args.sides _ c.cut-part.result _ _
 pub copy_within-requires-clause-in_bounds : goal.copy_within-requires-clause-in_bounds
 copy_within-requires-clause-in_bounds g c =
     let source = c.args.source in
-    let ends = source_ends c.args.sides source (sym c.inside.ensures ∙ c.if-not-inside.false) in
+    let inside : is_inside c.args.sides source ≡ true = cc in
+    let ends = source_ends c.args.sides source inside in
     let low : c.if-upwards.row < c.cut-part.result.h = elim c.if-upwards.branch [ then-upwards w ↦ omega arith | else-upwards w ↦ omega arith ] in
     row_fits c.args.sides source.x (source.y + c.if-upwards.row) _ _ _ (omega arith) (omega arith) c.place-from.ensures (omega arith)
 
@@ -30,6 +32,7 @@ loop-i-preserved g c =
     let part = c.cut-part.result in
     let up = nat_lt c.args.source.y part.y in
     let row : c.if-upwards.row ≡ row_after up part c.loop-i.i = elim c.if-upwards.branch [ then-upwards w ↦ grind (arith, nat_tests) | else-upwards w ↦ grind (arith, nat_tests) ] in
+    let inside : is_inside c.args.sides c.args.source ≡ true = cc in
     let before = c.args.cells.now in
     let mid = c.loop-i.cells in
     let n = c.loop-i.i in
@@ -39,7 +42,7 @@ loop-i-preserved g c =
     c.cut-part.ensures.inside c.loop-i-test.true
     (c.place-at.ensures ∙ ap (λ z. (part.y + z) * c.args.sides.width + part.x) row)
     c.from-count.ensures
-    (source_row c.args.sides c.args.source c.args.to part up n at from before mid (sym c.inside.ensures ∙ c.if-not-inside.false) c.cut-part.ensures refl c.loop-i-test.true
+    (source_row c.args.sides c.args.source c.args.to part up n at from before mid inside c.cut-part.ensures refl c.loop-i-test.true
     (c.place-from.ensures ∙ ap (λ z. (c.args.source.y + z) * c.args.sides.width + c.args.source.x) row)
     c.loop-i.invariant)
     c.loop-i.invariant
