@@ -41,15 +41,6 @@ row_after up part n = cond up (part.h - 1 - n) n
 abbrev pub rows : Bool → Rect → ℕ → Rect
 rows up part n = record { x = part.x; y = part.y + cond up (part.h - n) 0; w = part.w; h = n }
 
--- nothing painted
-pub no_rows : {X : Type 0} (sides : Sides) (up : Bool) (part : Rect) (new : ℕ → ℕ → X → X) (before : List X) → Shows sides (rows up part 0) new before before
-no_rows sides up part new before =
-    record {
-      size = refl;
-      cells = λ x y d l t. let off : holds (rows up part 0) x y ≡ false = grind (arith, nat_tests) in rw off;
-      behind = λ k d l. refl;
-    }
-
 -- what is painted anew, or was painted before, is painted
 joins : {X : Type 0} (a b : Bool) (now new was : X) → (b ≡ true → now ≡ new) → cond b now (cond a new was) ≡ cond (a || b) new was
 joins true true now new was e = e refl

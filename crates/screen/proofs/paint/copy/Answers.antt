@@ -2,13 +2,10 @@ use Rattle.std.proofs.Common.{◌≡◌, ◌+◌, ◌*◌, ◌≤◌, ◌<◌, n
 use Rattle.std.proofs.lemmas.Bool.Decides.{nat_tests}
 use Rattle.screen.specs.Paints.{source_cell}
 use Rattle.screen.specs.Rects.{is_inside}
-use Rattle.screen.proofs.Rows.{no_rows, one_row, all_rows, row_after, row_fits, source_ends, source_row}
+use Rattle.screen.proofs.Rows.{one_row, all_rows, row_after, row_fits, source_ends, source_row}
 use Rattle.screen.proofs.Runs.{laid, shift_part}
 use Rattle.screen.proofs.paint.copy.Goals as goal
 use Rattle.screen.proofs.paint.copy.Goals.{then-upwards, else-upwards}
-
-pub loop-i-init : goal.loop-i-init
-loop-i-init g c = no_rows c.args.sides _ c.cut-part.result _ _
 
 pub copy_within-requires-clause-in_bounds : goal.copy_within-requires-clause-in_bounds
 copy_within-requires-clause-in_bounds g c =

@@ -1,11 +1,8 @@
 use Rattle.std.proofs.Common.{◌+◌, ◌≤◌, false, length, rules, refl, arith}
 use Rattle.screen.specs.Paints.{plain}
-use Rattle.screen.proofs.Rows.{no_rows, one_row, all_rows, row_fits}
+use Rattle.screen.proofs.Rows.{one_row, all_rows, row_fits}
 use Rattle.screen.proofs.Runs.{always, fill_part}
 use Rattle.screen.proofs.paint.fill.Goals as goal
-
-pub loop-row-init : goal.loop-row-init
-loop-row-init g c = no_rows c.args.sides false c.cut-part.result _ _
 
 pub offset_bounds-cells-at : goal.offset_bounds-cells-at
 offset_bounds-cells-at g c =

@@ -1,11 +1,8 @@
 use Rattle.std.proofs.Common.{◌≡◌, ◌+◌, ◌*◌, ◌≤◌, false, length, rules, arith}
 use Rattle.screen.specs.Paints.{block_cell}
-use Rattle.screen.proofs.Rows.{no_rows, one_row, all_rows, row_fits, block_fits, block_row}
+use Rattle.screen.proofs.Rows.{one_row, all_rows, row_fits, block_fits, block_row}
 use Rattle.screen.proofs.Runs.{laid, lay_part}
 use Rattle.screen.proofs.paint.put.Goals as goal
-
-pub loop-row-init : goal.loop-row-init
-loop-row-init g c = no_rows c.args.sides false c.cut-part.result _ _
 
 pub offset_bounds-cells-at : goal.offset_bounds-cells-at
 offset_bounds-cells-at g c =
