@@ -1,5 +1,5 @@
 -- Painting row by row.
-use Rattle.std.proofs.Common.{◌≡◌, ℕ, ◌+◌, ◌-◌, ◌*◌, ◌<◌, ◌≤◌, Bool, true, false, cond, ◌&&◌, ◌||◌, List, get_or, nat_lt, sym, refl, ap, ◌∙◌, subst, ⊎_elim, mul-le-mul_right, mul_comm, add-mul, one-mul, arith}
+use Rattle.std.proofs.Common.{◌≡◌, ℕ, ◌+◌, ◌-◌, ◌*◌, ◌<◌, ◌≤◌, Bool, true, false, cond, ◌&&◌, ◌||◌, List, get_or, nat_lt, sym, refl, ap, ◌∙◌, subst, ⊎_elim, mul-le-mul_right, mul_comm, arith}
 use Rattle.std.proofs.lemmas.Bool.{cases_order, cond-false}
 use Rattle.std.proofs.lemmas.Bool.Decides.{nat_tests}
 use Rattle.screen.specs.declared.corner.Corner.{Corner}
@@ -12,15 +12,13 @@ use Rattle.screen.proofs.Runs.{laid, Run}
 
 -- a row ends where a later one begins, or before
 rows_apart : (w y z : ℕ) → y < z → y * w + w ≤ z * w
-rows_apart w y z l =
-    let next : (y + 1) * w ≤ z * w = mul-le-mul_right w (omega arith) in
-    omega (arith, add-mul y 1 w, one-mul w)
+rows_apart w y z l = let next : (y + 1) * w ≤ z * w = mul-le-mul_right w (omega arith) in omega arith
 
 -- a part of a row is in the memory that has room for the screen
 pub row_fits :
     (sides : Sides) (x y at count many : ℕ) → x + count ≤ sides.width → y < sides.height → at ≡ y * sides.width + x → sides.width * sides.height ≤ many
     → at + count ≤ many
-row_fits sides x y at count many l b is room = omega (arith, rows_apart sides.width y sides.height b, mul_comm sides.height sides.width)
+row_fits sides x y at count many l b is room = omega (arith, rows_apart sides.width y sides.height b)
 
 -- a place of the screen is in the run of a row exactly if its cell is
 row_place :
@@ -118,7 +116,7 @@ all_rows sides up rect part n new before after cut e shows =
 
 -- a row of the block is in the block
 pub block_fits : (rect : Rect) (n from count many : ℕ) → count ≤ rect.w → n < rect.h → from ≡ n * rect.w → many ≡ rect.w * rect.h → from + count ≤ many
-block_fits rect n from count many l b is all = omega (arith, rows_apart rect.w n rect.h b, mul_comm rect.h rect.w)
+block_fits rect n from count many l b is all = omega (arith, rows_apart rect.w n rect.h b)
 
 -- what a row of the block gives to the cells of its row
 pub block_row :
