@@ -46,14 +46,15 @@ joins true false now new was e = refl
 joins false true now new was e = e refl
 joins false false now new was e = refl
 
--- one row more
+-- with it, n rows are n + 1
 grows :
     (up : Bool) (part : Rect) (n x y : ℕ) → n < part.h
     → holds (rows up part (n + 1)) x y ≡ (holds (rows up part n) x y || (within part.x part.w x && within (part.y + row_after up part n) 1 y))
 grows true part n x y l = grind (arith, nat_tests)
 grows false part n x y l = grind (arith, nat_tests)
 
-pub row_below : (up : Bool) (part : Rect) (n : ℕ) → n < part.h → row_after up part n < part.h
+-- it is one of the rectangle's
+row_below : (up : Bool) (part : Rect) (n : ℕ) → n < part.h → row_after up part n < part.h
 row_below true part n l = omega arith
 row_below false part n l = l
 

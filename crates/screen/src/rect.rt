@@ -39,8 +39,7 @@ impl Rect {
     pub fn inside(&self, sides: Sides) -> bool
         ensures { result ≡ is_inside sides self.now }
     {
-        end(self.x, self.w) <= u32::from(sides.width)
-            && end(self.y, self.h) <= u32::from(sides.height)
+        self.right() <= u32::from(sides.width) && self.bottom() <= u32::from(sides.height)
     }
 
     // What a screen with these sides shows of the rectangle: the corner stays, and `NONE` stands for
@@ -80,6 +79,20 @@ impl Rect {
         }
         hull(self, other)
     }
+
+    // The column behind the last; it can pass 65,535.
+    fn right(&self) -> u32
+        ensures { result ≡ self.now.x + self.now.w }
+    {
+        u32::from(self.x) + u32::from(self.w)
+    }
+
+    // The row behind the last; it can pass 65,535.
+    fn bottom(&self) -> u32
+        ensures { result ≡ self.now.y + self.now.h }
+    {
+        u32::from(self.y) + u32::from(self.h)
+    }
 }
 
 // The smallest rectangle over two that have cells.
@@ -90,21 +103,14 @@ fn hull(a: Rect, b: Rect) -> Option<Rect>
 {
     let x = a.x.min(b.x);
     let y = a.y.min(b.y);
-    let w = end(a.x, a.w).max(end(b.x, b.w)) - u32::from(x);
-    let h = end(a.y, a.h).max(end(b.y, b.h)) - u32::from(y);
+    let w = a.right().max(b.right()) - u32::from(x);
+    let h = a.bottom().max(b.bottom()) - u32::from(y);
     Some(Rect {
         x,
         y,
         w: u16::try_from(w).ok()?,
         h: u16::try_from(h).ok()?,
     })
-}
-
-// The number behind the last of `count` numbers from `from` on; it can pass 65,535.
-fn end(from: u16, count: u16) -> u32
-    ensures { result ≡ from + count }
-{
-    u32::from(from) + u32::from(count)
 }
 
 // Whether `n` is one of the `count` numbers from `from` on.
