@@ -130,6 +130,13 @@ block_row sides rect part n at from block cut b e i d l =
     let same : from + (at + i - at) ≡ (part.y + n - rect.y) * rect.w + (part.x + i - rect.x) = omega arith in
     ap (λ z. get_or block z d) same
 
+-- the rows go up from the bottom where the target is below the source, and else down from the top
+pub row_up : (source part : Rect) (n : ℕ) → source.y < part.y → row_after (nat_lt source.y part.y) part n ≡ part.h - 1 - n
+row_up source part n l = grind (arith, nat_tests)
+
+pub row_down : (source part : Rect) (n : ℕ) → part.y ≤ source.y → row_after (nat_lt source.y part.y) part n ≡ n
+row_down source part n l = grind (arith, nat_tests)
+
 -- going down from the top, no row is read after it was painted, nor going up from the bottom
 unread :
     (up : Bool) (source part : Rect) (n x : ℕ) → up ≡ nat_lt source.y part.y → n < part.h
