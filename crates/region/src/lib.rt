@@ -8,4 +8,5 @@ mod row;
 mod sweep;
 mod work;
 
-pub use regions::{Corner, Region, two_squares};
+pub use regions::{Region, two_squares};
+pub use screen::Corner;
