@@ -4,7 +4,7 @@ ghost use Rattle.boxes.specs.Cells.{SameCells, in_box, none, of_rect};
 ghost use Rattle.screen.specs.Rects.{holds};
 ghost use Rattle.std.specs.Prelude.{◌≡◌, ℕ, ◌-◌, true, false, ◌&&◌, Decides, MatchOption};
 
-use screen::Rect;
+use screen::{Rect, Sides};
 
 // The cells with `left` ≤ x < `right` and `top` ≤ y < `bottom`.
 #[derive(Clone, Copy, PartialEq, Eq, Debug)]
@@ -20,7 +20,7 @@ impl CellBox {
     pub fn of_rect(rect: Rect) -> Option<CellBox>
         ensures { MatchOption result (SameCells (of_rect rect) none) (λ b. Proper b × SameCells (in_box b) (of_rect rect)) }
     {
-        let part = rect.cut(256, 256);
+        let part = rect.cut(Sides::LARGEST);
         if part.is_empty() {
             return None;
         }

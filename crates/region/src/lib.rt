@@ -9,4 +9,5 @@ mod sweep;
 mod work;
 
 pub use operation::Operation;
-pub use regions::{Corner, Region, two_squares};
+pub use regions::{Region, two_squares};
+pub use screen::Corner;

@@ -16,10 +16,3 @@ pub struct Region {
     ghost few: { count ≤ 32 },
     ghost banded: { ∥ Banded (take count boxes) ∥₁ },
 }
-
-// A column and a row, from which and to which a region is shifted.
-#[derive(Clone, Copy)]
-pub struct Corner {
-    pub x: u16,
-    pub y: u16,
-}

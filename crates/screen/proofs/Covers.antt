@@ -1,5 +1,7 @@
 -- The rectangle over two.
-use Rattle.std.proofs.Common.{◌≡◌, ◌+◌, ◌-◌, ◌≤◌, min, max, true, false, arith}
+use Rattle.std.proofs.Common.{◌≡◌, ℕ, ◌+◌, ◌-◌, ◌≤◌, min, max, true, false, Some, Ok, Err, Result, sym, ◌∙◌, arith}
+use Rattle.std.specs.Result.{result_ok, OkIff}
+use Rattle.std.proofs.lemmas.Option.{same_Some}
 use Rattle.std.proofs.lemmas.Bool.Decides.{nat_tests}
 use Rattle.screen.specs.declared.rect.Rect.{Rect}
 use Rattle.screen.specs.Rects.{holds, is_empty, Over, Least}
@@ -35,3 +37,8 @@ hull_least a b o e f l t r d =
           let eb = edges b other f q in
           reaches o other (omega arith) (omega arith) (omega arith) (omega arith);
     }
+
+-- a number that was narrowed is the same
+pub narrowed : {E : Type 0} (r : Result ℕ E) (P : Type 0) (n w : ℕ) → OkIff r P n → result_ok r ≡ Some w → w ≡ n
+narrowed (Ok x) P n w fits e = sym (same_Some x w e) ∙ fits.1
+narrowed (Err x) P n w fits e = cc

@@ -1,5 +1,5 @@
 mod Covers
 mod Once
 mod Overlaps
-mod Places
 mod Rows
+mod Runs

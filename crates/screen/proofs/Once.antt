@@ -1,32 +1,26 @@
 -- What is said of a painted memory leaves nothing open.
-use Rattle.std.proofs.Common.{◌≡◌, ℕ, ◌+◌, ◌*◌, ◌/◌, ◌%◌, ◌<◌, ◌≤◌, List, get_or, sym, ap, ◌∙◌, ⊎_elim, mul-le-mul_right, mod-lt, mul_comm, div-add-mod', zero-mul, arith}
+use Rattle.std.proofs.Common.{◌≡◌, ℕ, ◌+◌, ◌*◌, ◌/◌, ◌%◌, ◌<◌, ◌≤◌, List, get_or, sym, ap, ◌∙◌, ⊎_elim, mod-lt, div-add-mod', arith}
+use Rattle.std.proofs.Math.Nat.{div-lt_iff_lt-mul}
 use Rattle.std.proofs.lemmas.List.{same_lists}
 use Rattle.std.proofs.lemmas.Bool.{cases_lt}
 use Rattle.screen.specs.declared.rect.Rect.{Rect}
+use Rattle.screen.specs.declared.sides.Sides.{Sides}
 use Rattle.screen.specs.Paints.{Painted, Shows}
 
--- a screen with a cell has a column
-some_column : (w h k : ℕ) → k < w * h → 0 < w
-some_column w h k l =
-    ⊎_elim
-    (λ (b : 0 < w). b)
-    (λ (b : w ≤ 0). let none : w * h ≡ 0 = ap (λ z. z * h) (omega arith) ∙ zero-mul h in absurd (omega arith))
-    (cases_lt 0 w)
-
 -- every place of the screen is that of a cell
+some_column : (w h k : ℕ) → k < w * h → 0 < w
+some_column w h k l = grind arith
+
 row_of : (w h k : ℕ) → k < w * h → k / w < h
-row_of w h k l =
-    ⊎_elim
-    (λ (b : k / w < h). b)
-    (λ (b : h ≤ k / w).
-    let below : h * w ≤ k / w * w = mul-le-mul_right w b in
-    absurd (omega (arith, div-add-mod' k w, mul_comm h w)))
-    (cases_lt (k / w) h)
+row_of w h k l = (div-lt_iff_lt-mul (some_column w h k l)).1 (omega arith)
 
 -- two memories that show the same are the same
 shown_once :
-    {X : Type 0} (w h : ℕ) (rect : Rect) (new : ℕ → ℕ → X → X) (before a b : List X) → Shows w h rect new before a → Shows w h rect new before b → a ≡ b
-shown_once w h rect new before a b p q =
+    {X : Type 0} (sides : Sides) (rect : Rect) (new : ℕ → ℕ → X → X) (before a b : List X)
+    → Shows sides rect new before a → Shows sides rect new before b → a ≡ b
+shown_once sides rect new before a b p q =
+    let w = sides.width in
+    let h = sides.height in
     same_lists a b (p.size ∙ sym q.size)
     (λ k d l.
     ⊎_elim
@@ -39,6 +33,7 @@ shown_once w h rect new before a b p q =
     (cases_lt k (w * h)))
 
 pub painted :
-    {X : Type 0} (w h : ℕ) (rect : Rect) (new : ℕ → ℕ → X → X) (before after : List X) → Shows w h rect new before after → Painted w h rect new before after
+    {X : Type 0} (sides : Sides) (rect : Rect) (new : ℕ → ℕ → X → X) (before after : List X)
+    → Shows sides rect new before after → Painted sides rect new before after
 unfolding Painted
-painted w h rect new before after shows = (shows, λ other as-well. shown_once w h rect new before other after as-well shows)
+painted sides rect new before after shows = (shows, λ other as-well. shown_once sides rect new before other after as-well shows)

@@ -1,3 +1,2 @@
 pub mod Paints
 pub mod Rects
-pub mod Runs

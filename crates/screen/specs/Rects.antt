@@ -1,6 +1,7 @@
 -- Rectangles, by the cells that they hold.
 use Rattle.std.specs.Prelude.{◌≡◌, ℕ, ◌+◌, ◌-◌, ◌≤◌, min, max, Bool, true, false, cond, ◌&&◌, ◌||◌, ◌==◌, nat_le, nat_lt}
 use Rattle.screen.specs.declared.rect.Rect.{Rect}
+use Rattle.screen.specs.declared.sides.Sides.{Sides}
 
 -- n is one of the `count` numbers from `from` on
 abbrev pub within : ℕ → ℕ → ℕ → Bool
@@ -24,9 +25,9 @@ or_none rect = cond (is_empty rect) no_rect rect
 abbrev pub on_screen : ℕ → ℕ → ℕ → ℕ → Bool
 on_screen w h x y = nat_lt x w && nat_lt y h
 
--- every cell of the rectangle is on a screen of w × h
-abbrev pub is_inside : ℕ → ℕ → Rect → Bool
-is_inside w h rect = nat_le (rect.x + rect.w) w && nat_le (rect.y + rect.h) h
+-- every cell of the rectangle is on a screen with these sides
+abbrev pub is_inside : Sides → Rect → Bool
+is_inside sides rect = nat_le (rect.x + rect.w) sides.width && nat_le (rect.y + rect.h) sides.height
 
 -- what two rectangles have in common
 abbrev pub common : Rect → Rect → Rect
@@ -43,14 +44,14 @@ common a b =
 abbrev pub Common : Rect → Rect → Rect → Type 0
 Common a b part = (x y : ℕ) → holds part x y ≡ (holds a x y && holds b x y)
 
--- `part` is what a screen of w × h shows of `rect`. Its corner is that of `rect` where it has a
--- cell, and one rectangle stands for no cells.
-pub record Cut (w h : ℕ) (rect part : Rect) : Type 0 where
-  pub cells : (x y : ℕ) → holds part x y ≡ (holds rect x y && on_screen w h x y)
+-- `part` is what a screen with these sides shows of `rect`. Its corner is that of `rect` where it has
+-- a cell, and one rectangle stands for no cells.
+pub record Cut (screen : Sides) (rect part : Rect) : Type 0 where
+  pub cells : (x y : ℕ) → holds part x y ≡ (holds rect x y && on_screen screen.width screen.height x y)
   pub none : is_empty part ≡ true → part ≡ no_rect
   pub corner : is_empty part ≡ false → (part.x ≡ rect.x) × (part.y ≡ rect.y)
   pub sides : (part.w ≤ rect.w) × (part.h ≤ rect.h)
-  pub inside : (part.x + part.w ≤ w) × (part.y + part.h ≤ h)
+  pub inside : (part.x + part.w ≤ screen.width) × (part.y + part.h ≤ screen.height)
 
 -- `outer` has every cell of `inner`
 abbrev pub Over : Rect → Rect → Type 0

@@ -1,9 +1,11 @@
 // Rectangles of cells.
 ghost use Rattle.screen.specs.Rects.{Common, Cut, Least, common, cover, holds, is_empty, is_inside, is_narrow, within};
-ghost use Rattle.std.specs.Prelude.{◌≡◌, ◌+◌, ◌-◌, ◌<◌, ◌≤◌, min, max, false, if◌then◌else◌, Some, None, MatchOption};
+ghost use Rattle.std.specs.Prelude.{◌≡◌, ◌+◌, ◌-◌, ◌*◌, ◌<◌, ◌≤◌, min, max, false, if◌then◌else◌, Some, None, MatchOption};
+
+use crate::sides::Sides;
 
 // The cells from column `x` and row `y` on, `w` columns and `h` rows of them.
-#[derive(Clone, Copy, PartialEq, Eq, Debug)]
+#[derive(Clone, Copy, PartialEq, Eq, Hash, Debug)]
 pub struct Rect {
     pub x: u16,
     pub y: u16,
@@ -33,24 +35,19 @@ impl Rect {
         spans(self.x, self.w, x) && spans(self.y, self.h, y)
     }
 
-    // Whether every cell is on a screen of `width` × `height`.
-    pub fn inside(&self, width: u16, height: u16) -> bool
-        ensures { result ≡ is_inside width height self.now }
+    // Whether every cell is on a screen with these sides.
+    pub fn inside(&self, sides: Sides) -> bool
+        ensures { result ≡ is_inside sides self.now }
     {
-        end(self.x, self.w) <= u32::from(width) && end(self.y, self.h) <= u32::from(height)
+        self.right() <= u32::from(sides.width) && self.bottom() <= u32::from(sides.height)
     }
 
-    // What a screen of `width` × `height` shows of the rectangle: the corner stays, and `NONE` stands
-    // for no cells.
-    pub fn cut(&self, width: u16, height: u16) -> Rect
-        ensures { Cut width height self.now result }
+    // What a screen with these sides shows of the rectangle: the corner stays, and `NONE` stands for
+    // no cells.
+    pub fn cut(&self, sides: Sides) -> Rect
+        ensures { Cut sides self.now result }
     {
-        self.cut_to(Rect {
-            x: 0,
-            y: 0,
-            w: width,
-            h: height,
-        })
+        self.cut_to(sides.whole())
     }
 
     // The cells that both have; `NONE` stands for no cells.
@@ -60,8 +57,8 @@ impl Rect {
     {
         let x = self.x.max(other.x);
         let y = self.y.max(other.y);
-        let w = reach(x, end(self.x, self.w).min(end(other.x, other.w)));
-        let h = reach(y, end(self.y, self.h).min(end(other.y, other.h)));
+        let w = rest(self.x, self.w, x).min(rest(other.x, other.w, x));
+        let h = rest(self.y, self.h, y).min(rest(other.y, other.h, y));
         if w == 0 || h == 0 {
             return Self::NONE;
         }
@@ -82,6 +79,20 @@ impl Rect {
         }
         hull(self, other)
     }
+
+    // The column behind the last; it can pass 65,535.
+    fn right(&self) -> u32
+        ensures { result ≡ self.now.x + self.now.w }
+    {
+        u32::from(self.x) + u32::from(self.w)
+    }
+
+    // The row behind the last; it can pass 65,535.
+    fn bottom(&self) -> u32
+        ensures { result ≡ self.now.y + self.now.h }
+    {
+        u32::from(self.y) + u32::from(self.h)
+    }
 }
 
 // The smallest rectangle over two that have cells.
@@ -92,37 +103,27 @@ fn hull(a: Rect, b: Rect) -> Option<Rect>
 {
     let x = a.x.min(b.x);
     let y = a.y.min(b.y);
-    let w = end(a.x, a.w).max(end(b.x, b.w)) - u32::from(x);
-    let h = end(a.y, a.h).max(end(b.y, b.h)) - u32::from(y);
-    if w > 65535 || h > 65535 {
-        return None;
-    }
+    let w = a.right().max(b.right()) - u32::from(x);
+    let h = a.bottom().max(b.bottom()) - u32::from(y);
     Some(Rect {
         x,
         y,
-        w: w as u16,
-        h: h as u16,
+        w: u16::try_from(w).ok()?,
+        h: u16::try_from(h).ok()?,
     })
-}
-
-// The number behind the last of `count` numbers from `from` on; it can pass 65,535.
-fn end(from: u16, count: u16) -> u32
-    ensures { result ≡ from + count }
-{
-    u32::from(from) + u32::from(count)
 }
 
 // Whether `n` is one of the `count` numbers from `from` on.
 fn spans(from: u16, count: u16, n: u16) -> bool
     ensures { result ≡ within from count n }
 {
-    from <= n && u32::from(n) < end(from, count)
+    from <= n && n - from < count
 }
 
-// How many numbers there are from `from` on, up to `to`.
-fn reach(from: u16, to: u32) -> u16
-    requires { to - from < 65536 }
-    ensures { result ≡ to - from }
+// How many of the `count` numbers from `from` on are `n` or above.
+fn rest(from: u16, count: u16, n: u16) -> u16
+    requires { from ≤ n }
+    ensures { result ≡ from + count - n }
 {
-    to.saturating_sub(u32::from(from)) as u16
+    count.saturating_sub(n - from)
 }

@@ -10,11 +10,11 @@ ghost use Rattle.region.specs.Shifts.{Kept, move_onto};
 ghost use Rattle.screen.specs.Rects.{holds, on_screen};
 ghost use Rattle.std.specs.Prelude.{◌≡◌, ℕ, ◌+◌, ◌-◌, ◌≤◌, min, true, false, ◌&&◌, [], ◌∷◌, map, length, Decides};
 
-use super::{Corner, Region};
+use super::Region;
 use crate::operation::Operation;
 use crate::sweep::sweep;
 use boxes::CellBox;
-use screen::Rect;
+use screen::{Corner, Rect, Sides};
 
 // The region of one box.
 fn single(b: CellBox) -> Region
@@ -179,17 +179,12 @@ impl Region {
         self.combine(Operation::Away, other)
     }
 
-    // The cells of a screen of `width` × `height`, as far as they are on the largest.
-    pub fn whole(width: u16, height: u16) -> Region
-        ensures region { RegionOf (λ x y. on_screen width height x y && on_largest x y) (held result) }
-        ensures exact { SameCells (has (held result)) (λ x y. on_screen width height x y && on_largest x y) }
+    // The cells of a screen with these sides, as far as they are on the largest.
+    pub fn whole(sides: Sides) -> Region
+        ensures region { RegionOf (λ x y. on_screen sides.width sides.height x y && on_largest x y) (held result) }
+        ensures exact { SameCells (has (held result)) (λ x y. on_screen sides.width sides.height x y && on_largest x y) }
     {
-        Region::from_rect(Rect {
-            x: 0,
-            y: 0,
-            w: width,
-            h: height,
-        })
+        Region::from_rect(sides.whole())
     }
 
     // The cells, moved by the distance from one corner to another. A cell that would leave the largest

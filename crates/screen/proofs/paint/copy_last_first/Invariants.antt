@@ -1,6 +1,0 @@
-use Rattle.std.proofs.Common.{◌+◌, ◌-◌}
-use Rattle.screen.specs.Runs.{Run, laid}
-use Rattle.screen.proofs.paint.copy_last_first.Given as goal
-
-abbrev pub invariant-loop-i : goal.invariant-loop-i
-invariant-loop-i g l = Run (l.to + l.i) (l.count - l.i) (laid l.initial.cells l.from l.to) l.initial.cells l.cells

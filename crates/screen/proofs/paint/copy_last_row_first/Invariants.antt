@@ -1,7 +1,0 @@
-use Rattle.screen.specs.Paints.{Shows, source_cell}
-use Rattle.screen.proofs.Places.{last_rows}
-use Rattle.screen.proofs.paint.copy_last_row_first.Given as goal
-
-abbrev pub invariant-loop-row : goal.invariant-loop-row
-invariant-loop-row g l =
-    Shows l.width l.height (last_rows l.part l.row) (source_cell l.width l.source l.part.x l.part.y l.initial.cells) l.initial.cells l.cells
