@@ -1,5 +1,5 @@
 -- Strips of rows, drawn one below the other.
-use Rattle.std.proofs.Common.{◌≡◌, ℕ, ◌-◌, ◌<◌, ◌≤◌, min, Bool, true, false, ◌&&◌, List, [], ◌∷◌, length, take, sym, refl, ap, ◌∙◌, subst, ap₂, arith}
+use Rattle.std.proofs.Common.{◌≡◌, ℕ, ◌-◌, ◌<◌, ◌≤◌, Bool, true, false, ◌&&◌, List, [], ◌∷◌, length, take, sym, refl, ap, ◌∙◌, subst, ap₂, arith}
 use native.Mathlib.Nat.{sub-zero}
 use Rattle.std.proofs.lemmas.Bool.{both_ways}
 use Rattle.boxes.specs.declared.cell_box.CellBox.{CellBox}
@@ -10,14 +10,13 @@ use Rattle.boxes.proofs.Adding.{painted_add, painted_none}
 use Rattle.boxes.proofs.Outlines.{outline_add}
 use Rattle.region.specs.declared.operation.Operation.{Operation}
 use Rattle.region.specs.declared.operation.Operation.TheVariants.{Join, Cut, Away}
-use Rattle.region.specs.declared.place.Place.{Place}
 use Rattle.region.specs.declared.work.Work.{Work}
-use Rattle.region.specs.Places.{turn_of}
+use Rattle.region.specs.Places.{shown_boxes, turn_of}
 use Rattle.region.specs.Rows.{Merged, spans}
 use Rattle.region.specs.Sets.{keeps, kept}
 use Rattle.region.specs.Sweeps.{Painting, Strip}
 use Rattle.region.specs.Works.{Adds}
-use Rattle.region.proofs.Strips.{At, Sorted, at_row, shown_runs}
+use Rattle.region.proofs.Strips.{At, at_row}
 
 -- a row with cells of one list only is kept as it is, or not at all
 keeps_first : (op : Operation) (a : Bool) → keeps op a false ≡ (keeps op true false && a)
@@ -130,10 +129,6 @@ painting_add op as' bs t e ps qs w w' p s h top cells =
 
 -- up to the next turn of either list each row is kept alike
 pub rows_kept :
-    (op : Operation) (as' bs : List CellBox) (p q : Place) (y e x v : ℕ) → Sorted as' → Sorted bs → At as' p y → At bs q y → e ≤ turn_of as' p y → e ≤ turn_of bs q y
-    → y ≤ v → v < e → kept op as' bs x v ≡ keeps op (in_spans (shown_runs as' p y) x) (in_spans (shown_runs bs q y) x)
-rows_kept op as' bs p q y e x v s t a b h k lo hi = ap₂ (keeps op) (at_row as' p y e x v s a h lo hi) (at_row bs q y e x v t b k lo hi)
-
--- where the next strip ends: the nearer of two turns
-pub next_turn : (a b y n : ℕ) → n ≡ min a b → (y < a) × (a ≤ 256) → (y < b) × (b ≤ 256) → (y < n) × (n ≤ 256) × (n ≤ a) × (n ≤ b)
-next_turn a b y n e p q = (omega arith, omega arith, omega arith, omega arith)
+    (op : Operation) (as' bs ps qs : List CellBox) (y e x v : ℕ) → At as' ps y → At bs qs y → e ≤ turn_of ps y → e ≤ turn_of qs y → y ≤ v → v < e
+    → kept op as' bs x v ≡ keeps op (in_spans (spans (shown_boxes ps y)) x) (in_spans (spans (shown_boxes qs y)) x)
+rows_kept op as' bs ps qs y e x v a b h k lo hi = ap₂ (keeps op) (at_row as' ps y e x v a h lo hi) (at_row bs qs y e x v b k lo hi)
