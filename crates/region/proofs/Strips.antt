@@ -1,14 +1,14 @@
 -- Which cells a banded list has in the rows at hand of a sweep.
-use Rattle.std.proofs.Common.{◌≡◌, ℕ, zero, suc, ◌+◌, ◌<◌, ◌≤◌, true, false, ◌||◌, eqb, leb, ◌⊎◌, List, [], ◌∷◌, ◌++◌, length, take, drop, take_while, sym, refl, ap, ◌∙◌, subst, ap₂, inl, inr, arith}
+use Rattle.std.proofs.Common.{◌≡◌, ℕ, zero, suc, ◌+◌, ◌<◌, ◌≤◌, true, false, ◌&&◌, ◌||◌, eqb, leb, ◌⊎◌, List, [], ◌∷◌, ◌++◌, length, take, drop, take_while, sym, refl, ap, ◌∙◌, subst, inl, inr, arith}
 use Rattle.std.proofs.lemmas.List.Sums.{take_while-cons}
 use Rattle.std.proofs.lemmas.Bool.{cases_eq, cases_lt, cond_both, cond-false, cond-true, eq-eqb, ne_eqb}
 use Rattle.std.proofs.lemmas.Bool.Decides.{nat_tests}
 use Rattle.std.specs.List.{AllByRecursion, prefix_len}
 use Rattle.boxes.specs.declared.cell_box.CellBox.{CellBox}
 use Rattle.boxes.specs.Banded.{Banded, NoTouch, OneBand, Pairs, Proper, before}
-use Rattle.boxes.specs.Bands.{Apart, in_spans}
+use Rattle.boxes.specs.Bands.{Apart, boxes_of, in_spans}
 use Rattle.boxes.specs.Cells.{between, has, has_row, in_box}
-use Rattle.boxes.proofs.Unique.{below, beyond, has-++, inside, or_false}
+use Rattle.boxes.proofs.Unique.{below, beyond, has-++, has_band, inside, or_false}
 use Rattle.region.specs.Leads.{below_band, first_band, has_top}
 use Rattle.region.specs.Places.{past_of, shown_boxes, turn_of}
 use Rattle.region.specs.Rows.{spans}
@@ -70,14 +70,14 @@ tops_below b (c ∷ cs) e p f h = (elim f.0 [ inl k ↦ omega (arith, h, k.0) | 
 
 -- boxes of a band from t to e, from column l on, and others below them
 record Parts (t e l : ℕ) (bs cs : List CellBox) : Type 0 where
-  pub band : AllByRecursion (λ b. (b.top ≡ t) × (b.bottom ≡ e)) bs
+  pub band : bs ≡ boxes_of t e (spans bs)
   pub apart : Apart l (spans bs)
   pub under : AllByRecursion (λ c. e ≤ c.top) cs
 
 parts :
     (t e : ℕ) (b : CellBox) (cs : List CellBox) → b.top ≡ t → b.bottom ≡ e → t < e → AllByRecursion (Follows b) cs → Sorted cs
     → Parts t e (b.right + 1) (take_while (has_top t) cs) (drop (length (take_while (has_top t) cs)) cs)
-parts t e b [] p q h f s = record { band = tt; apart = tt; under = tt }
+parts t e b [] p q h f s = record { band = refl; apart = tt; under = tt }
 parts t e b (c ∷ cs) p q h f s =
     elim f.0 [
       | inl k ↦
@@ -86,7 +86,7 @@ parts t e b (c ∷ cs) p q h f s =
           let r = parts t e c cs (k.0 ∙ p) (k.1 ∙ q) h s.1.0 (s.0.1, s.1.1) in
           subst (λ l. Parts t e (b.right + 1) l (drop (length l) (c ∷ cs))) (sym on)
           (record {
-            band = ((k.0 ∙ p, k.1 ∙ q), r.band);
+            band = λ i. record { left = c.left; top = (k.0 ∙ p) i; right = c.right; bottom = (k.1 ∙ q) i } ∷ r.band i;
             apart = (omega (arith, k.2), s.0.0.0, s.0.0.1, r.apart);
             under = r.under;
           }))
@@ -95,50 +95,35 @@ parts t e b (c ∷ cs) p q h f s =
           take_while-cons (has_top t) c cs ∙ cond-false (eqb c.top t) (c ∷ take_while (has_top t) cs) [] (ne_eqb c.top t (λ z. omega (arith, k))) in
           let lower : e ≤ c.top = omega (arith, k) in
           subst (λ l. Parts t e (b.right + 1) l (drop (length l) (c ∷ cs))) (sym off)
-          (record { band = tt; apart = tt; under = (lower, tops_below c cs e s.0.0 s.1.0 lower) }))
+          (record { band = refl; apart = tt; under = (lower, tops_below c cs e s.0.0 s.1.0 lower) }))
     ]
 
 -- the first band of a list, and the boxes below it
 first_parts : (b : CellBox) (cs : List CellBox) → Sorted (b ∷ cs) → Parts b.top b.bottom 0 (first_band (b ∷ cs)) (below_band (b ∷ cs))
 first_parts b cs s =
     let r = parts b.top b.bottom b cs refl refl s.0.0.2 s.1.0 (s.0.1, s.1.1) in
-    record { band = ((refl, refl), r.band); apart = (omega arith, s.0.0.0, s.0.0.1, r.apart); under = r.under }
+    record { band = ap (λ l. b ∷ l) r.band; apart = (omega arith, s.0.0.0, s.0.0.1, r.apart); under = r.under }
 
 parted : (n : ℕ) (bs : List CellBox) → take n bs ++ drop (length (take n bs)) bs ≡ bs
 parted zero bs = refl
 parted (suc n) [] = refl
 parted (suc n) (b ∷ bs) = ap (λ l. b ∷ l) (parted n bs)
 
-has_parts : (bs : List CellBox) (x v : ℕ) → has bs x v ≡ (has (first_band bs) x v || has (below_band bs) x v)
-has_parts [] x v = refl
-has_parts (b ∷ bs) x v =
-    ap (λ l. has (b ∷ l) x v) (sym (parted (prefix_len (has_top b.top) bs) bs)) ∙ has-++ (first_band (b ∷ bs)) (below_band (b ∷ bs)) x v
-
--- the rows of a band have its boxes' cells, and those below have none of them
-band_row :
-    (t e : ℕ) (bs : List CellBox) (x v : ℕ) → AllByRecursion (λ c. (c.top ≡ t) × (c.bottom ≡ e)) bs → t ≤ v → v < e
-    → has bs x v ≡ in_spans (spans bs) x
-band_row t e [] x v a lo hi = refl
-band_row t e (b ∷ bs) x v a lo hi =
-    let on : has_row b v ≡ true = inside b.top b.bottom v (omega arith) (omega arith) in
-    let this : in_box b x v ≡ between b.left b.right x = grind (arith, nat_tests) in
-    ap₂ ◌||◌ this (band_row t e bs x v a.1 lo hi)
-
-band_past : (t e : ℕ) (bs : List CellBox) (x v : ℕ) → AllByRecursion (λ c. (c.top ≡ t) × (c.bottom ≡ e)) bs → e ≤ v → has bs x v ≡ false
-band_past t e [] x v a h = refl
-band_past t e (b ∷ bs) x v a h =
-    let off : has_row b v ≡ false = beyond b.top b.bottom v (omega arith) in
-    let gone : in_box b x v ≡ false = grind (arith, nat_tests) in
-    rw gone (band_past t e bs x v a.1 h)
+-- the rows of the first band have its runs, and those of the others' boxes
+lead_has :
+    (b : CellBox) (cs : List CellBox) (x v : ℕ) → Sorted (b ∷ cs)
+    → has (b ∷ cs) x v ≡ ((between b.top b.bottom v && in_spans (spans (first_band (b ∷ cs))) x) || has (below_band (b ∷ cs)) x v)
+lead_has b cs x v s =
+    let band : List CellBox = first_band (b ∷ cs) in
+    let others : List CellBox = below_band (b ∷ cs) in
+    ap (λ l. has (b ∷ l) x v) (sym (parted (prefix_len (has_top b.top) cs) cs))
+    ∙ has-++ band others x v
+    ∙ ap (λ z. z || has others x v) (ap (λ l. has l x v) (first_parts b cs s).band ∙ has_band b.top b.bottom (spans band) x v)
 
 -- the first box does not end above row y
 abbrev pub Open : List CellBox → ℕ → Type 0
 Open [] y = Unit {0}
 Open (b ∷ bs) y = y < b.bottom
-
-open_from : (bs : List CellBox) (y : ℕ) → Sorted bs → AllByRecursion (λ c. y ≤ c.top) bs → Open bs y
-open_from [] y s a = tt
-open_from (b ∷ bs) y s a = omega (arith, a.0, s.0.0.2)
 
 -- when a sweep comes to row y, the boxes cs are left of bs: the others end above
 pub record At (bs cs : List CellBox) (y : ℕ) : Type 0 where
@@ -147,11 +132,8 @@ pub record At (bs cs : List CellBox) (y : ℕ) : Type 0 where
   pub open' : Open cs y
 
 pub at_start : (bs : List CellBox) → Banded bs → At bs bs 0
-at_start bs b = record { order = sorted bs b; rest = λ x v h. refl; open' = open_from bs 0 (sorted bs b) (all_from bs) }
-  where
-    all_from : (cs : List CellBox) → AllByRecursion (λ c. 0 ≤ c.top) cs
-    all_from [] = tt
-    all_from (c ∷ cs) = (omega arith, all_from cs)
+at_start [] b = record { order = sorted [] b; rest = λ x v h. refl; open' = tt }
+at_start (c ∷ cs) b = record { order = sorted (c ∷ cs) b; rest = λ x v h. refl; open' = omega (arith, b.proper.0.2) }
 
 -- the next turn is below, and on the largest screen
 pub at_turn : (bs cs : List CellBox) (y : ℕ) → At bs cs y → y < 256 → (y < turn_of cs y) × (turn_of cs y ≤ 256)
@@ -177,12 +159,9 @@ at_row bs (c ∷ cs) y e x v a h lo hi =
       | inr late ↦
           (let all : shown_boxes (c ∷ cs) y ≡ first_band (c ∷ cs) = cond-true (leb c.top y) (first_band (c ∷ cs)) [] (grind (arith, nat_tests)) in
           let turn : turn_of (c ∷ cs) y ≡ c.bottom = grind (arith, nat_tests) in
-          let p = first_parts c cs a.order in
-          has_parts (c ∷ cs) x v
-          ∙ ap₂ ◌||◌ (band_row c.top c.bottom (first_band (c ∷ cs)) x v p.band (omega arith) (omega arith))
-          (none_above (below_band (c ∷ cs)) c.bottom x v p.under (omega arith))
-          ∙ or_false (in_spans (spans (first_band (c ∷ cs))) x)
-          ∙ sym (ap (λ l. in_spans (spans l) x) all))
+          let on : between c.top c.bottom v ≡ true = inside c.top c.bottom v (omega arith) (omega arith) in
+          let under : has (below_band (c ∷ cs)) x v ≡ false = none_above (below_band (c ∷ cs)) c.bottom x v (first_parts c cs a.order).under (omega arith) in
+          lead_has c cs x v a.order ∙ rw (on, under, all) (or_false (in_spans (spans (first_band (c ∷ cs))) x)))
     ]
 
 pub at_apart : (bs cs : List CellBox) (y : ℕ) → At bs cs y → Apart 0 (spans (shown_boxes cs y))
@@ -191,20 +170,20 @@ at_apart bs (c ∷ cs) y a =
     cond_both (leb c.top y) (first_band (c ∷ cs)) [] (λ l. Apart 0 (spans l)) (λ _. (first_parts c cs a.order).apart) (λ _. tt)
 
 -- what is left when the sweep comes to row e
+open_from : (bs : List CellBox) (e : ℕ) → Sorted bs → AllByRecursion (λ c. e ≤ c.top) bs → Open bs e
+open_from [] e s a = tt
+open_from (b ∷ bs) e s a = omega (arith, a.0, s.0.0.2)
+
 pub at_past : (bs cs : List CellBox) (y e : ℕ) → At bs cs y → y ≤ e → e ≤ turn_of cs y → At bs (past_of cs e) e
 at_past bs [] y e a h top = record { order = a.order; rest = λ x v lo. a.rest x v (omega arith); open' = tt }
 at_past bs (c ∷ cs) y e a h top =
     cond_both (leb c.bottom e) (below_band (c ∷ cs)) (c ∷ cs) (λ l. At bs l e)
     (λ on.
-    let p = first_parts c cs a.order in
-    let ends : e ≡ c.bottom = grind (arith, nat_tests) in
+    let ends : c.bottom ≡ e = grind (arith, nat_tests) in
     let s = sorted_drop (length (first_band (c ∷ cs))) (c ∷ cs) a.order in
     record {
       order = s;
-      rest = λ x v lo.
-          a.rest x v (omega arith)
-          ∙ has_parts (c ∷ cs) x v
-          ∙ ap (λ z. z || has (below_band (c ∷ cs)) x v) (band_past c.top c.bottom (first_band (c ∷ cs)) x v p.band (omega arith));
-      open' = open_from (below_band (c ∷ cs)) e s (subst (λ k. AllByRecursion (λ d. k ≤ d.top) (below_band (c ∷ cs))) (sym ends) p.under);
+      rest = λ x v lo. a.rest x v (omega arith) ∙ lead_has c cs x v a.order ∙ rw (beyond c.top c.bottom v (omega arith));
+      open' = open_from (below_band (c ∷ cs)) e s (subst (λ k. AllByRecursion (λ d. k ≤ d.top) (below_band (c ∷ cs))) ends (first_parts c cs a.order).under);
     })
     (λ off. record { order = a.order; rest = λ x v lo. a.rest x v (omega arith); open' = grind (arith, nat_tests) })
