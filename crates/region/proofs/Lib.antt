@@ -1,4 +1,3 @@
-mod Leads
 mod Strips
 mod Adding
 mod Runs

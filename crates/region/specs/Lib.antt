@@ -1,4 +1,5 @@
 pub mod Held
+pub mod Leads
 pub mod Places
 pub mod Rows
 pub mod Sets

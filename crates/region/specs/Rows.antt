@@ -1,5 +1,5 @@
 -- The runs of a row.
-use Rattle.std.specs.Prelude.{◌≡◌, ℕ, ◌+◌, ◌-◌, ◌<◌, ◌≤◌, Bool, cond, ◌&&◌, List, [], ◌∷◌, map, length, take, ◌==◌, nat_le, nat_lt, slice_index_or}
+use Rattle.std.specs.Prelude.{◌≡◌, ℕ, ◌+◌, ◌-◌, ◌<◌, ◌≤◌, Bool, false, cond, ◌&&◌, List, [], ◌∷◌, map, take, ◌==◌, nat_le, nat_lt, slice_index_or}
 use Rattle.boxes.specs.declared.cell_box.CellBox.{CellBox}
 use Rattle.boxes.specs.Banded.{Span, span}
 use Rattle.boxes.specs.Bands.{Apart, in_spans}
@@ -34,19 +34,23 @@ pub record Fits (l : ℕ) (ss : List Span) : Type 0 where
 
 -- the column where the runs begin
 abbrev pub start_of : List CellBox → ℕ
-start_of bs = cond (nat_lt 0 (length bs)) (slice_index_or bs 0 no_box).left 256
+start_of [] = 256
+start_of (b ∷ bs) = b.left
 
--- the first column right of x where the runs may begin or end, where all before `at` end left of it
-abbrev pub edge_of : List CellBox → ℕ → ℕ → ℕ
-edge_of bs at x = cond (nat_lt at (length bs)) (cond (nat_lt x (slice_index_or bs at no_box).left) (slice_index_or bs at no_box).left (slice_index_or bs at no_box).right) 256
+-- the first column right of x where the runs may begin or end, none of which ends left of it
+abbrev pub edge_of : List CellBox → ℕ → ℕ
+edge_of [] x = 256
+edge_of (b ∷ bs) x = cond (nat_lt x b.left) b.left b.right
 
--- the run `at` has begun at column x
-abbrev pub on_run : List CellBox → ℕ → ℕ → Bool
-on_run bs at x = nat_lt at (length bs) && nat_le (slice_index_or bs at no_box).left x
+-- the first run has begun at column x
+abbrev pub begun : List CellBox → ℕ → Bool
+begun [] x = false
+begun (b ∷ bs) x = nat_le b.left x
 
--- the run after `at`, where that ends at column x
-abbrev pub past_run : List CellBox → ℕ → ℕ → ℕ
-past_run bs at x = cond (nat_lt at (length bs) && nat_le (slice_index_or bs at no_box).right x) (at + 1) at
+-- the runs after the first, where that ends at column x
+abbrev pub past_run : List CellBox → ℕ → List CellBox
+past_run [] x = []
+past_run (b ∷ bs) x = cond (nat_le b.right x) bs (b ∷ bs)
 
 -- the runs are those of what an operation keeps of two rows
 pub record Merged (operation : Operation) (ps qs row : List Span) : Type 0 where

@@ -1,63 +1,70 @@
 // A sweep goes down two lists of boxes at once, band by band.
-ghost use Rattle.region.specs.Places.{past_of, place_at, shown_boxes, turn_of};
-ghost use Rattle.std.specs.Prelude.{◌≡◌, ◌≤◌, length};
+ghost use Rattle.region.specs.Leads.{first_band, has_top};
+ghost use Rattle.std.specs.Prelude.{◌≡◌, ◌≤◌, ◌++◌, length};
+ghost use Rattle.std.specs.List.{prefix_len};
 
 use boxes::CellBox;
 
-// Where a sweep stands in a list: at the band of the boxes `from..to`, the first that does not end
-// above the row at hand. There are none where the list has come to its end.
+// Where a sweep stands in a list: at a band, with the boxes below it. Together they are the boxes that
+// do not end above the row at hand; there are none where the list has come to its end.
 #[derive(Clone, Copy)]
-pub struct Place {
-    pub from: usize,
-    pub to: usize,
+pub struct Place<'a> {
+    band: &'a [CellBox],
+    below: &'a [CellBox],
+    ghost whole: { band.now ≡ first_band (band.now ++ below.now) },
 }
 
-impl Place {
-    // At the band that begins with the box `from`.
-    pub(crate) fn new(boxes: &[CellBox], from: usize) -> Place
-        requires { from ≤ length boxes.now }
-        ensures { result ≡ place_at boxes.now from }
+// How many boxes at the front of a list begin in row `top`.
+fn same_top(boxes: &[CellBox], top: u16) -> usize
+    ensures few { result ≤ length boxes.now }
+    ensures count { result ≡ prefix_len (has_top top) boxes.now }
+{
+    boxes.iter().take_while(|b| b.top == top).count()
+}
+
+impl<'a> Place<'a> {
+    ghost use Rattle.region.specs.Places.{past_of, remaining, shown_boxes, turn_of};
+
+    // At the first band of a list.
+    pub(crate) fn new(boxes: &'a [CellBox]) -> Place<'a>
+        ensures { remaining result ≡ boxes.now }
     {
-        let mut to = from;
-        while to < boxes.len() && boxes[to].top == boxes[from].top {
-            to += 1;
-        }
-        Place { from, to }
+        let size = match boxes {
+            [first, ..] => same_top(boxes, first.top),
+            [] => 0,
+        };
+        let (band, below) = boxes.split_at(size);
+        Place { band, below }
     }
 
     // The first row below `y` in which the list may have other cells; 256 where there is none.
-    pub(crate) fn turn(self, boxes: &[CellBox], y: u16) -> u16
-        ensures { result ≡ turn_of boxes.now self y }
+    pub(crate) fn turn(self, y: u16) -> u16
+        ensures { result ≡ turn_of (remaining self.entry) y }
     {
-        if self.from >= boxes.len() {
-            return 256;
+        match self.band {
+            [b, ..] if y < b.top => b.top,
+            [b, ..] => b.bottom,
+            [] => 256,
         }
-        if y < boxes[self.from].top {
-            return boxes[self.from].top;
-        }
-        boxes[self.from].bottom
     }
 
     // The boxes that have cells in row `y`.
-    pub(crate) fn shown<'a>(self, boxes: &'a [CellBox], y: u16) -> &'a [CellBox]
-        requires { (self.from ≤ self.to) × (self.to ≤ length boxes.now) }
-        ensures { result.now ≡ shown_boxes boxes.now self y }
+    pub(crate) fn shown(self, y: u16) -> &'a [CellBox]
+        ensures { result.now ≡ shown_boxes (remaining self.entry) y }
     {
-        let (from, to) = (self.from, self.to);
-        if from < to && boxes[from].top <= y {
-            return &boxes[from..to];
+        match self.band {
+            [b, ..] if b.top <= y => self.band,
+            _ => &[],
         }
-        &boxes[0..0]
     }
 
     // Goes on to the next band where this one ends at row `y`.
-    pub(crate) fn past(self, boxes: &[CellBox], y: u16) -> Place
-        requires { self.to ≤ length boxes.now }
-        ensures { result ≡ past_of boxes.now self y }
+    pub(crate) fn past(self, y: u16) -> Place<'a>
+        ensures { remaining result ≡ past_of (remaining self.entry) y }
     {
-        if self.from < boxes.len() && boxes[self.from].bottom <= y {
-            return Place::new(boxes, self.to);
+        match self.band {
+            [b, ..] if b.bottom <= y => Place::new(self.below),
+            _ => self,
         }
-        self
     }
 }

@@ -1,7 +1,7 @@
 // The runs of cells of a row. They are kept as boxes of which only the left and the right edge count,
 // so that the boxes of a band are its runs as they stand.
 ghost use Rattle.boxes.specs.Bands.{Apart};
-ghost use Rattle.region.specs.Rows.{Fits, Merged, add_run, edge_of, ends_at, on_run, past_run, runs_of, spans, start_of};
+ghost use Rattle.region.specs.Rows.{Fits, Merged, add_run, begun, edge_of, ends_at, past_run, runs_of, spans, start_of};
 ghost use Rattle.std.specs.Prelude.{◌≡◌, ◌≤◌, if◌then◌else◌};
 
 use crate::operation::Operation;
@@ -80,15 +80,15 @@ impl Row {
         ensures count { self.new.count ≤ 128 }
         ensures merged { Merged operation (spans first.now) (spans second.now) (runs_of self.new) }
     {
-        let (mut i, mut j) = (0, 0);
+        let (mut first, mut second) = (first, second);
         let mut x = start(first).min(start(second));
         self.count = 0;
-        while i < first.len() || j < second.len() {
-            let next = edge(first, i, x).min(edge(second, j, x));
-            let kept = operation.keep(begun(first, i, x), begun(second, j, x));
+        while !(first.is_empty() && second.is_empty()) {
+            let next = edge(first, x).min(edge(second, x));
+            let kept = operation.keep(begun(first, x), begun(second, x));
             self.draw(kept, x, next);
-            i = past(first, i, next);
-            j = past(second, j, next);
+            first = past(first, next);
+            second = past(second, next);
             x = next;
         }
     }
@@ -98,39 +98,40 @@ impl Row {
 fn start(runs: &[CellBox]) -> u16
     ensures { result ≡ start_of runs.now }
 {
-    if runs.len() > 0 {
-        return runs[0].left;
+    match runs {
+        [run, ..] => run.left,
+        [] => 256,
     }
-    256
 }
 
-// The first column right of `x` where the runs may begin or end, `at` being the first that does not
-// end left of it; 256 where there is none.
-fn edge(runs: &[CellBox], at: usize, x: u16) -> u16
-    ensures { result ≡ edge_of runs.now at x }
+// The first column right of `x` where the runs may begin or end, none of which ends left of it; 256
+// where there are none.
+fn edge(runs: &[CellBox], x: u16) -> u16
+    ensures { result ≡ edge_of runs.now x }
 {
-    if at >= runs.len() {
-        return 256;
+    match runs {
+        [run, ..] if x < run.left => run.left,
+        [run, ..] => run.right,
+        [] => 256,
     }
-    if x < runs[at].left {
-        return runs[at].left;
-    }
-    runs[at].right
 }
 
-// Whether the run `at` has begun at column `x`.
-fn begun(runs: &[CellBox], at: usize, x: u16) -> bool
-    ensures { result ≡ on_run runs.now at x }
+// Whether the first run has begun at column `x`.
+fn begun(runs: &[CellBox], x: u16) -> bool
+    ensures { result ≡ begun runs.now x }
 {
-    at < runs.len() && runs[at].left <= x
+    match runs {
+        [run, ..] => run.left <= x,
+        [] => false,
+    }
 }
 
-// The run after `at` where that ends at column `x`.
-fn past(runs: &[CellBox], at: usize, x: u16) -> usize
-    ensures { result ≡ past_run runs.now at x }
+// The runs after the first where that ends at column `x`.
+fn past(runs: &[CellBox], x: u16) -> &[CellBox]
+    ensures { result.now ≡ past_run runs.now x }
 {
-    if at < runs.len() && runs[at].right <= x {
-        return at + 1;
+    match runs {
+        [run, rest @ ..] if run.right <= x => rest,
+        _ => runs,
     }
-    at
 }

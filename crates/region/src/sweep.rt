@@ -53,15 +53,22 @@ pub(crate) fn sweep(operation: Operation, first: &[CellBox], second: &[CellBox])
 {
     let mut work = Work::new();
     let mut row = Row::new();
-    let mut p = Place::new(first, 0);
-    let mut q = Place::new(second, 0);
+    let mut p = Place::new(first);
+    let mut q = Place::new(second);
     let mut y = 0;
     while y < 256 {
-        let next = p.turn(first, y).min(q.turn(second, y));
-        let (runs, others) = (p.shown(first, y), q.shown(second, y));
-        strip(operation, y, next, runs, others, &mut row, &mut work);
-        p = p.past(first, next);
-        q = q.past(second, next);
+        let next = p.turn(y).min(q.turn(y));
+        strip(
+            operation,
+            y,
+            next,
+            p.shown(y),
+            q.shown(y),
+            &mut row,
+            &mut work,
+        );
+        p = p.past(next);
+        q = q.past(next);
         y = next;
     }
     work

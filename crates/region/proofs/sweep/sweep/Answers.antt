@@ -1,79 +1,40 @@
-use Rattle.std.proofs.Common.{ℕ, min, sym, ◌∙◌, subst, ap₂, subst₂, arith}
-use Rattle.boxes.specs.Bands.{Apart}
-use Rattle.region.specs.Places.{turn_of}
-use Rattle.region.specs.Rows.{spans}
-use Rattle.region.specs.Sets.{kept}
-use Rattle.region.specs.Sweeps.{Strip}
-use Rattle.region.proofs.Strips.{At, at_apart, at_order, at_past, at_start, at_to, at_turn, shown_runs, sorted}
-use Rattle.region.proofs.Sweeping.{next_turn, painting_add, painting_none, rows_kept}
+use Rattle.std.proofs.Common.{ℕ, ◌<◌, ◌≤◌, arith}
+use Rattle.region.specs.Places.{remaining, turn_of}
+use Rattle.region.proofs.Strips.{at_apart, at_past, at_start, at_turn}
+use Rattle.region.proofs.Sweeping.{painting_add, painting_none, rows_kept}
 use Rattle.region.proofs.sweep.sweep.Goals as goal
 
 pub loop-y-init : goal.loop-y-init
 loop-y-init c =
-    let ps = c.args.first.now in
-    let qs = c.args.second.now in
-    let w = c.new-work.ensures in (
-      omega arith,
-      (omega arith, omega arith),
-      subst (λ p. At ps p 0) (sym c.new-p.ensures) (at_start ps (sorted ps c.requires.0)),
-      subst (λ p. At qs p 0) (sym c.new-q.ensures) (at_start qs (sorted qs c.requires.1)),
-      painting_none (kept c.args.operation ps qs) c.new-work.result w.0 w.1 w.2 w.3,
-    )
-
-pub shown-runs-requires : goal.shown-runs-requires
-shown-runs-requires c =
-    let at = c.loop-y.invariant.2 in
-    (at_order c.args.first.now c.loop-y.p c.loop-y.y at, at_to c.args.first.now c.loop-y.p c.loop-y.y at)
-
-pub shown-others-requires : goal.shown-others-requires
-shown-others-requires c =
-    let at = c.loop-y.invariant.3 in
-    (at_order c.args.second.now c.loop-y.q c.loop-y.y at, at_to c.args.second.now c.loop-y.q c.loop-y.y at)
-
-pub strip-requires : goal.strip-requires
-strip-requires c =
-    let ps = c.args.first.now in
-    let qs = c.args.second.now in
-    let l = c.loop-y in
+    let w = c.new-work.ensures in
     record {
-      first = subst (λ r. Apart 0 (spans r)) (sym c.shown-runs.ensures) (at_apart ps l.p l.y (sorted ps c.requires.0) l.invariant.2);
-      second = subst (λ r. Apart 0 (spans r)) (sym c.shown-others.ensures) (at_apart qs l.q l.y (sorted qs c.requires.1) l.invariant.3);
-      work = l.invariant.1;
+      y = omega arith;
+      sound = (omega arith, omega arith);
+      first = rw c.new-p.ensures (at_start _ c.requires.0);
+      second = rw c.new-q.ensures (at_start _ c.requires.1);
+      drawn = painting_none _ c.new-work.result w.0 w.1 w.2 w.3;
     }
 
-pub past-p-requires : goal.past-p-requires
-past-p-requires c = at_to c.args.first.now c.loop-y.p c.loop-y.y c.loop-y.invariant.2
+pub strip-requires-clause-first : goal.strip-requires-clause-first
+strip-requires-clause-first c = rw c.shown.ensures (at_apart _ _ c.loop-y.y c.loop-y.invariant.first)
 
-pub past-q-requires : goal.past-q-requires
-past-q-requires c = at_to c.args.second.now c.loop-y.q c.loop-y.y c.loop-y.invariant.3
-
-pub loop-y-smaller : goal.loop-y-smaller
-loop-y-smaller c =
-    let ps = c.args.first.now in
-    let qs = c.args.second.now in
-    let l = c.loop-y in
-    let n = next_turn (turn_of ps l.p l.y) (turn_of qs l.q l.y) l.y c.min-next.result (c.min-next.ensures ∙ ap₂ min c.turn.ensures c.turn-in-loop-y.ensures)
-    (at_turn ps l.p l.y (sorted ps c.requires.0) l.invariant.2 c.loop-y-test.true)
-    (at_turn qs l.q l.y (sorted qs c.requires.1) l.invariant.3 c.loop-y-test.true) in
-    omega (arith, n.0, n.1)
+pub strip-requires-clause-second : goal.strip-requires-clause-second
+strip-requires-clause-second c = rw c.shown-in-loop-y.ensures (at_apart _ _ c.loop-y.y c.loop-y.invariant.second)
 
 pub loop-y-preserved : goal.loop-y-preserved
 loop-y-preserved c =
-    let ps = c.args.first.now in
-    let qs = c.args.second.now in
     let l = c.loop-y in
     let e : ℕ = c.min-next.result in
-    let sp = sorted ps c.requires.0 in
-    let sq = sorted qs c.requires.1 in
-    let n = next_turn (turn_of ps l.p l.y) (turn_of qs l.q l.y) l.y e (c.min-next.ensures ∙ ap₂ min c.turn.ensures c.turn-in-loop-y.ensures)
-    (at_turn ps l.p l.y sp l.invariant.2 c.loop-y-test.true)
-    (at_turn qs l.q l.y sq l.invariant.3 c.loop-y-test.true) in
-    let drawn : Strip c.args.operation l.y e (shown_runs ps l.p l.y) (shown_runs qs l.q l.y) l.work c.strip.new.work =
-    subst₂ (λ p q. Strip c.args.operation l.y e (spans p) (spans q) l.work c.strip.new.work) c.shown-runs.ensures c.shown-others.ensures c.strip.ensures.drawn in (
-      n.1,
-      c.strip.ensures.sound,
-      subst (λ p. At ps p e) (sym c.past-p.ensures) (at_past ps l.p l.y e sp l.invariant.2 (omega (arith, n.0)) n.2),
-      subst (λ q. At qs q e) (sym c.past-q.ensures) (at_past qs l.q l.y e sq l.invariant.3 (omega (arith, n.0)) n.3),
-      painting_add c.args.operation ps qs l.y e (shown_runs ps l.p l.y) (shown_runs qs l.q l.y) l.work c.strip.new.work l.invariant.4 drawn n.0 n.1
-          (λ x v lo hi. rows_kept c.args.operation ps qs l.p l.q l.y e x v sp sq l.invariant.2 l.invariant.3 n.2 n.3 lo hi),
-    )
+    let p = at_turn _ _ _ l.invariant.first c.loop-y-test.true in
+    let q = at_turn _ _ _ l.invariant.second c.loop-y-test.true in
+    let first : e ≤ turn_of (remaining l.p) l.y = omega (arith, c.min-next.ensures, c.turn.ensures) in
+    let second : e ≤ turn_of (remaining l.q) l.y = omega (arith, c.min-next.ensures, c.turn-in-loop-y.ensures) in
+    let below : l.y < e = omega (arith, c.min-next.ensures, c.turn.ensures, c.turn-in-loop-y.ensures) in
+    record {
+      y = omega arith;
+      sound = c.strip.ensures.sound;
+      first = rw c.past-p.ensures (at_past _ _ _ e l.invariant.first (omega arith) first);
+      second = rw c.past-q.ensures (at_past _ _ _ e l.invariant.second (omega arith) second);
+      drawn = painting_add _ _ _ _ e _ _ _ _ l.invariant.drawn (rw (c.shown.ensures, c.shown-in-loop-y.ensures) at c.strip.ensures.drawn) below (omega arith)
+          (λ x v lo hi. rows_kept _ _ _ _ _ l.y e x v l.invariant.first l.invariant.second first second lo hi);
+    }

@@ -1,4 +1,5 @@
 use Rattle.std.proofs.Common.{◌-◌, ◌≤◌}
+use Rattle.region.specs.Places.{remaining}
 use Rattle.region.specs.Sets.{kept}
 use Rattle.region.specs.Sweeps.{Painting}
 use Rattle.region.specs.Works.{Sound}
@@ -7,11 +8,13 @@ use Rattle.region.proofs.sweep.sweep.Given as goal
 
 abbrev pub invariant-loop-y : goal.invariant-loop-y
 invariant-loop-y l =
-    (l.y ≤ 256)
-    × Sound l.work
-    × At l.first l.p l.y
-    × At l.second l.q l.y
-    × Painting (kept l.operation l.first l.second) l.y l.work
+    record {
+      y : l.y ≤ 256;
+      sound : Sound l.work;
+      first : At l.first (remaining l.p) l.y;
+      second : At l.second (remaining l.q) l.y;
+      drawn : Painting (kept l.operation l.first l.second) l.y l.work;
+    }
 
 abbrev pub decreases-loop-y : goal.decreases-loop-y
 decreases-loop-y l = 256 - l.y

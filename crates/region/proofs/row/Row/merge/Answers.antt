@@ -1,83 +1,41 @@
-use Rattle.std.proofs.Common.{◌≡◌, ℕ, ◌<◌, ◌≤◌, cond, sym, ap, ◌∙◌, subst, ap₂, arith}
-use Rattle.boxes.specs.Strips.{Drawn}
-use Rattle.region.specs.Rows.{add_run, edge_of, runs_of, start_of}
-use Rattle.region.specs.Sets.{keeps}
-use Rattle.region.proofs.Runs.{Along, along_edge, along_inside, along_past, along_start, drawn_fits, drawn_merged, drawn_start, kept_row, merge_draws, start_inside}
+use Rattle.std.proofs.Common.{ℕ, ◌<◌, ◌≤◌, arith}
+use Rattle.std.proofs.lemmas.Bool.Decides.{nat_tests}
+use Rattle.region.specs.Rows.{edge_of, start_of}
+use Rattle.region.proofs.Runs.{along_edge, along_inside, along_past, along_start, drawn_merged, drawn_start, merge_draws, start_inside}
 use Rattle.region.proofs.row.Row.merge.Goals as goal
-use Rattle.region.proofs.row.Row.merge.Goals.{then-i-first, else-i-first+then-j-second}
 
-pub loop-i-init : goal.loop-i-init
-loop-i-init c =
-    let ps = c.args.first.now in
-    let qs = c.args.second.now in
-    let x : ℕ = c.min-x.result in
-    let first : x ≤ start_of ps = omega (arith, c.min-x.ensures, c.start.ensures) in
-    let second : x ≤ start_of qs = omega (arith, c.min-x.ensures, c.start-2.ensures) in (
-      omega (arith, first, start_inside ps c.requires.0),
-      omega arith,
-      along_start ps x c.requires.0 first,
-      along_start qs x c.requires.1 second,
-      drawn_start c.args.operation ps qs x c.requires.0 c.requires.1 first second,
-    )
-
-pub loop-i-preserved : goal.loop-i-preserved
-loop-i-preserved c =
-    let ps = c.args.first.now in
-    let qs = c.args.second.now in
-    let l = c.loop-i in
-    let n : ℕ = c.min-next.result in
-    let here : l.x < 256 =
-    elim c.if-i-first.branch [
-      | then-i-first w ↦ along_inside ps l.i l.x c.requires.0 l.invariant.2 w.if-i-first.true
-      | else-i-first+then-j-second w ↦ along_inside qs l.j l.x c.requires.1 l.invariant.3 w.if-j-second.true
-    ] in
-    let p = along_edge ps l.i l.x c.requires.0 l.invariant.2 here in
-    let q = along_edge qs l.j l.x c.requires.1 l.invariant.3 here in
-    let first : n ≤ edge_of ps l.i l.x = omega (arith, c.min-next.ensures, c.edge.ensures) in
-    let second : n ≤ edge_of qs l.j l.x = omega (arith, c.min-next.ensures, c.edge-in-loop-i.ensures) in
-    let past : l.x < n = omega (arith, c.min-next.ensures, c.edge.ensures, c.edge-in-loop-i.ensures, p.0, q.0) in
-    let top : n ≤ 256 = omega (arith, first, p.1) in
-    let kept : c.keep-kept.result ≡ keeps c.args.operation _ _ = c.keep-kept.ensures ∙ ap₂ (keeps c.args.operation) c.begun.ensures c.begun-in-loop-i.ensures in (
-      top,
-      c.draw.ensures.count,
-      subst (λ k. Along ps k n) (sym c.past-i.ensures) (along_past ps l.i l.x n c.requires.0 l.invariant.2 (omega arith) first),
-      subst (λ k. Along qs k n) (sym c.past-j.ensures) (along_past qs l.j l.x n c.requires.1 l.invariant.3 (omega arith) second),
-      subst (Drawn (kept_row c.args.operation ps qs) n)
-          (sym (c.draw.ensures.runs ∙ ap (λ b. cond b (add_run l.x n (runs_of l.self)) (runs_of l.self)) kept))
-          (merge_draws c.args.operation ps qs c.requires.0 c.requires.1 l.i l.j l.x n (runs_of l.self) l.invariant.2 l.invariant.3 past top first second l.invariant.4),
-    )
-
-pub draw-requires : goal.draw-requires
-draw-requires c =
-    let ps = c.args.first.now in
-    let qs = c.args.second.now in
-    let l = c.loop-i in
-    let here : l.x < 256 =
-    elim c.if-i-first.branch [
-      | then-i-first w ↦ along_inside ps l.i l.x c.requires.0 l.invariant.2 w.if-i-first.true
-      | else-i-first+then-j-second w ↦ along_inside qs l.j l.x c.requires.1 l.invariant.3 w.if-j-second.true
-    ] in
-    (l.invariant.1, drawn_fits (kept_row c.args.operation ps qs) l.x (runs_of l.self) l.invariant.4 here)
-
-pub loop-i-smaller : goal.loop-i-smaller
-loop-i-smaller c =
-    let ps = c.args.first.now in
-    let qs = c.args.second.now in
-    let l = c.loop-i in
-    let here : l.x < 256 =
-    elim c.if-i-first.branch [
-      | then-i-first w ↦ along_inside ps l.i l.x c.requires.0 l.invariant.2 w.if-i-first.true
-      | else-i-first+then-j-second w ↦ along_inside qs l.j l.x c.requires.1 l.invariant.3 w.if-j-second.true
-    ] in
-    let p = along_edge ps l.i l.x c.requires.0 l.invariant.2 here in
-    let q = along_edge qs l.j l.x c.requires.1 l.invariant.3 here in
-    omega (arith, c.min-next.ensures, c.edge.ensures, c.edge-in-loop-i.ensures, p.0, q.0, here)
-
-pub returns : goal.returns
-returns c =
-    let l = c.loop-i in
+pub loop-first-init : goal.loop-first-init
+loop-first-init c =
+    let first : c.min-x.result ≤ start_of c.args.first.now = omega (arith, c.min-x.ensures, c.start.ensures) in
+    let second : c.min-x.result ≤ start_of c.args.second.now = omega (arith, c.min-x.ensures, c.start-2.ensures) in
     record {
-      count = l.invariant.1;
-      merged = drawn_merged c.args.operation c.args.first.now c.args.second.now l.i l.j l.x (runs_of l.self) l.invariant.2 l.invariant.3 (omega arith) (omega arith)
-          l.invariant.4;
+      x = omega (arith, start_inside c.args.first.now c.requires.0);
+      count = omega arith;
+      first = along_start c.args.first.now _ c.requires.0 first;
+      second = along_start c.args.second.now _ c.requires.1 second;
+      drawn = drawn_start c.args.operation c.args.first.now c.args.second.now _ c.requires.0 c.requires.1 first second;
     }
+
+pub loop-first-preserved : goal.loop-first-preserved
+loop-first-preserved c =
+    let l = c.loop-first in
+    let n : ℕ = c.min-next.result in
+    let here : l.x < 256 = grind (arith, nat_tests, along_inside) in
+    let p = along_edge _ _ _ l.invariant.first here in
+    let q = along_edge _ _ _ l.invariant.second here in
+    let first : n ≤ edge_of l.first.now l.x = omega (arith, c.min-next.ensures, c.edge.ensures) in
+    let second : n ≤ edge_of l.second.now l.x = omega (arith, c.min-next.ensures, c.edge-in-loop-first.ensures) in
+    let past : l.x < n = omega (arith, c.min-next.ensures, c.edge.ensures, c.edge-in-loop-first.ensures) in
+    record {
+      x = omega arith;
+      count = c.draw.ensures.count;
+      first = rw c.past-first.ensures (along_past _ _ _ n l.invariant.first (omega arith) first);
+      second = rw c.past-second.ensures (along_past _ _ _ n l.invariant.second (omega arith) second);
+      drawn = rw (c.draw.ensures.runs, c.keep-kept.ensures, c.begun.ensures, c.begun-in-loop-first.ensures)
+          (merge_draws _ _ _ _ _ _ n l.invariant.first l.invariant.second first second _ past (omega arith) l.invariant.drawn);
+    }
+
+pub returns-clause-merged : goal.returns-clause-merged
+returns-clause-merged c =
+    let l = c.loop-first in
+    drawn_merged _ _ _ _ _ _ _ l.invariant.first l.invariant.second (grind (arith, nat_tests)) (grind (arith, nat_tests)) l.invariant.drawn
