@@ -7,7 +7,7 @@ ghost use Rattle.std.specs.Prelude.{◌≡◌, ℕ, ◌-◌, true, false, ◌&&�
 use screen::Rect;
 
 // The cells with `left` ≤ x < `right` and `top` ≤ y < `bottom`.
-#[derive(Clone, Copy, PartialEq, Eq, Debug)]
+#[derive(Clone, Copy, PartialEq, Eq, Hash, Debug)]
 pub struct CellBox {
     pub left: u16,
     pub top: u16,

@@ -1,6 +1,7 @@
 -- The boxes of a band in an array: compared, lowered, added.
 use Rattle.std.proofs.Common.{◌≡◌, ℕ, ◌+◌, ◌-◌, ◌<◌, ◌≤◌, Bool, true, false, ◌&&◌, List, [], ◌∷◌, ◌++◌, map, length, get_or, take, drop, set, sym, refl, ap, ◌∙◌, ap₂, arith}
 use borrow.Rule.Slice.PartMut.{put_mid}
+use Rattle.std.specs.List.{list_all, zip}
 use Rattle.std.proofs.lemmas.List.Edits.{map_over_more}
 use Rattle.std.proofs.lemmas.List.{append_assoc, append-nil, drop_all, drop_more, get_or_default, length-drop, length-map, length-take-le, take_all, take_more, take_more_set}
 use Rattle.std.proofs.lemmas.Slice.{between_is, take-put_mid}
@@ -22,25 +23,12 @@ edges_lengths (p ∷ ps) (q ∷ qs) h = go (same_run p q) (edges_lengths ps qs (
     go true e = e
     go false e = refl
 
-edges-drop :
-    (ps qs : List CellBox) (i : ℕ) → i < length ps → i < length qs
-    → same_runs (spans (drop i ps)) (spans (drop i qs)) ≡ (same_run (get_or ps i no_box) (get_or qs i no_box) && same_runs (spans (drop (i + 1) ps)) (spans (drop (i + 1) qs)))
-edges-drop ps qs i h k = ap₂ (λ p q. same_runs (spans p) (spans q)) (drop_more ps i no_box h) (drop_more qs i no_box k)
-
-pub edges_differ :
-    (ps qs : List CellBox) (i : ℕ) → i < length ps → i < length qs → same_runs (spans ps) (spans qs) ≡ same_runs (spans (drop i ps)) (spans (drop i qs))
-    → same_run (get_or ps i no_box) (get_or qs i no_box) ≡ false → false ≡ same_runs (spans ps) (spans qs)
-edges_differ ps qs i h k e n = sym (e ∙ edges-drop ps qs i h k ∙ ap (λ t. t && same_runs (spans (drop (i + 1) ps)) (spans (drop (i + 1) qs))) n)
-
-pub edges_more :
-    (ps qs : List CellBox) (i : ℕ) → i < length ps → i < length qs → same_runs (spans ps) (spans qs) ≡ same_runs (spans (drop i ps)) (spans (drop i qs))
-    → same_run (get_or ps i no_box) (get_or qs i no_box) ≡ true → same_runs (spans ps) (spans qs) ≡ same_runs (spans (drop (i + 1) ps)) (spans (drop (i + 1) qs))
-edges_more ps qs i h k e n = e ∙ edges-drop ps qs i h k ∙ ap (λ t. t && same_runs (spans (drop (i + 1) ps)) (spans (drop (i + 1) qs))) n
-
-pub edges_all :
-    (ps qs : List CellBox) (i : ℕ) → length ps ≤ i → length qs ≤ i → same_runs (spans ps) (spans qs) ≡ same_runs (spans (drop i ps)) (spans (drop i qs))
-    → true ≡ same_runs (spans ps) (spans qs)
-edges_all ps qs i h k e = sym (e ∙ ap₂ (λ p q. same_runs (spans p) (spans q)) (drop_all i ps h) (drop_all i qs k))
+-- bands as long are compared run by run
+pub edges_zipped : (ps qs : List CellBox) → length ps ≡ length qs → list_all (λ p. same_run p.0 p.1) (zip ps qs) ≡ same_runs (spans ps) (spans qs)
+edges_zipped [] [] h = refl
+edges_zipped [] (q ∷ qs) h = absurd (omega arith)
+edges_zipped (p ∷ ps) [] h = absurd (omega arith)
+edges_zipped (p ∷ ps) (q ∷ qs) h = ap (λ t. same_run p q && t) (edges_zipped ps qs (omega arith))
 
 -- one more box changed in its place
 pub map_more :

@@ -45,15 +45,7 @@ fn same_run(a: &CellBox, b: &CellBox) -> bool
 fn same_edges(band: &[CellBox], runs: &[CellBox]) -> bool
     ensures { result ≡ same_runs (spans band.now) (spans runs.now) }
 {
-    if band.len() != runs.len() {
-        return false;
-    }
-    for i in 0..runs.len() {
-        if !same_run(&band[i], &runs[i]) {
-            return false;
-        }
-    }
-    true
+    band.len() == runs.len() && band.iter().zip(runs).all(|(a, b)| same_run(a, b))
 }
 
 // Whether the rows from `top` on go on with a band.

@@ -8,7 +8,7 @@ ghost use Rattle.region.specs.Held.{held};
 ghost use Rattle.region.specs.Sets.{kept};
 ghost use Rattle.region.specs.Shifts.{Kept, move_onto};
 ghost use Rattle.screen.specs.Rects.{holds, on_screen};
-ghost use Rattle.std.specs.Prelude.{◌≡◌, ℕ, ◌+◌, ◌-◌, ◌≤◌, min, true, false, ◌&&◌, [], ◌∷◌, map, length, Decides};
+ghost use Rattle.std.specs.Prelude.{◌≡◌, ℕ, ◌+◌, ◌-◌, ◌≤◌, min, true, false, ◌&&◌, [], ◌∷◌, map, length, Any, Decides, IsTrue, ◌↔◌};
 
 use super::{Corner, Region};
 use crate::operation::Operation;
@@ -27,34 +27,9 @@ fn single(b: CellBox) -> Region
 
 // Whether one of the boxes has a cell in common with another box.
 fn any_meets(boxes: &[CellBox], other: &CellBox) -> bool
-    ensures { Decides result ((x y : ℕ) × (has boxes.now x y && in_box other.now x y) ≡ true) }
+    ensures { IsTrue result ↔ Any (λ b. (x y : ℕ) × (in_box b x y && in_box other.now x y) ≡ true) boxes.now }
 {
-    for b in boxes {
-        if b.meets(other) {
-            return true;
-        }
-    }
-    false
-}
-
-fn same_box(a: &CellBox, b: &CellBox) -> bool
-    ensures { Decides result (a.now ≡ b.now) }
-{
-    a.left == b.left && a.top == b.top && a.right == b.right && a.bottom == b.bottom
-}
-
-fn same_boxes(first: &[CellBox], second: &[CellBox]) -> bool
-    ensures { Decides result (first.now ≡ second.now) }
-{
-    if first.len() != second.len() {
-        return false;
-    }
-    for i in 0..first.len() {
-        if !same_box(&first[i], &second[i]) {
-            return false;
-        }
-    }
-    true
+    boxes.iter().any(|b| b.meets(other))
 }
 
 // The box of the cells that stay on the largest screen when they are moved from one corner to another.
@@ -208,7 +183,7 @@ impl Region {
     pub fn is_empty(&self) -> bool
         ensures { Decides result (SameCells (has (held self.now)) none) }
     {
-        self.boxes().len() == 0
+        self.boxes().is_empty()
     }
 
     // Whether a cell of the region is one of the rectangle's.
@@ -226,7 +201,7 @@ impl Region {
         ensures cells { Decides result (SameCells (has (held self.now)) (has (held other.now))) }
         ensures form { OneForm }
     {
-        same_boxes(self.boxes(), other.boxes())
+        self.boxes() == other.boxes()
     }
 }
 
