@@ -92,20 +92,19 @@ pub stretched_none : (t e : ℕ) (runs : List CellBox) (k : CellBox) → length 
 stretched_none t e [] k n = refl
 stretched_none t e (r ∷ rs) k n = absurd (omega arith)
 
-last_right_is : (r : CellBox) (rs : List CellBox) → (get_or (r ∷ rs) (length rs) no_box).right ≡ last_right (span r) (spans rs)
-last_right_is r [] = refl
-last_right_is r (q ∷ rs) = last_right_is q rs
+last_right_is : (r : CellBox) (rs : List CellBox) (d : CellBox) → (get_or (r ∷ rs) (length rs) d).right ≡ last_right (span r) (spans rs)
+last_right_is r [] d = refl
+last_right_is r (q ∷ rs) d = last_right_is q rs d
 
 pub stretched_some :
-    (t e : ℕ) (runs : List CellBox) (k h : CellBox) → (length runs ≡ 0 → ⊥)
-    → h ≡ hull k (record { left = (get_or runs 0 no_box).left; top = t; right = (get_or runs (length runs - 1) no_box).right; bottom = e })
-    → h ≡ stretched t e (spans runs) k
-stretched_some t e [] k h n is = absurd (n refl)
-stretched_some t e (r ∷ rs) k h n is =
-    let last : length (r ∷ rs) - 1 ≡ length rs = omega arith in
+    (t e : ℕ) (runs : List CellBox) (k h first last : CellBox) → 0 < length runs → first ≡ get_or runs 0 first → last ≡ get_or runs (length runs - 1) last
+    → h ≡ hull k (record { left = first.left; top = t; right = last.right; bottom = e }) → h ≡ stretched t e (spans runs) k
+stretched_some t e [] k h first last n p q is = absurd (omega arith)
+stretched_some t e (r ∷ rs) k h first last n p q is =
+    let end : length (r ∷ rs) - 1 ≡ length rs = omega arith in
     is
-    ∙ ap (λ z. hull k (record { left = r.left; top = t; right = (get_or (r ∷ rs) z no_box).right; bottom = e })) last
-    ∙ ap (λ z. hull k (record { left = r.left; top = t; right = z; bottom = e })) (last_right_is r rs)
+    ∙ ap₂ (λ l z. hull k (record { left = l; top = t; right = z; bottom = e })) (ap (λ b. b.left) p)
+    (ap (λ b. b.right) q ∙ ap (λ z. (get_or (r ∷ rs) z last).right) end ∙ last_right_is r rs last)
 
 -- the box around does not touch the boxes
 pub adds_apart :

@@ -30,13 +30,13 @@ fn strip(
     ensures sound { Sound work.new }
     ensures drawn { Strip operation top bottom (spans first.now) (spans second.now) work.old work.new }
 {
-    if second.len() == 0 {
+    if second.is_empty() {
         if operation.keep(true, false) {
             work.add(top, bottom, first);
         }
         return;
     }
-    if first.len() == 0 {
+    if first.is_empty() {
         if operation.keep(false, true) {
             work.add(top, bottom, second);
         }

@@ -52,7 +52,7 @@ fn same_edges(band: &[CellBox], runs: &[CellBox]) -> bool
 fn goes_on(band: &[CellBox], top: u16, runs: &[CellBox]) -> bool
     ensures { result ≡ goes_on_boxes top (spans runs.now) band.now }
 {
-    band.len() > 0 && band[0].bottom == top && same_edges(band, runs)
+    band.first().is_some_and(|b| b.bottom == top) && same_edges(band, runs)
 }
 
 // The least box over two.
@@ -146,13 +146,13 @@ impl Work {
         ensures adds { Adds top bottom (spans runs.now) self.old self.new }
         ensures hull { self.new.hull ≡ stretched top bottom (spans runs.now) self.old.hull }
     {
-        if runs.len() == 0 {
+        let (Some(first), Some(last)) = (runs.first(), runs.last()) else {
             return;
-        }
+        };
         let around = CellBox {
-            left: runs[0].left,
+            left: first.left,
             top,
-            right: runs[runs.len() - 1].right,
+            right: last.right,
             bottom,
         };
         self.hull = hull_of(self.hull, around);

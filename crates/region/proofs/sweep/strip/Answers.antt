@@ -1,3 +1,5 @@
+use Rattle.std.proofs.Common.{sym, ◌∙◌}
+use Rattle.std.proofs.lemmas.Bool.{eqb-true}
 use Rattle.region.proofs.Sweeping.{strip_both, strip_first, strip_no_first, strip_no_second, strip_second}
 use Rattle.region.specs.Rows.{spans}
 use Rattle.region.proofs.sweep.strip.Goals as goal
@@ -8,14 +10,14 @@ returns-then-keep c =
     record {
       sound = add.sound;
       drawn = strip_first c.args.operation c.args.top c.args.bottom c.args.first.now c.args.second.now c.args.work.now c.add.new.self
-          c.if-second-eq0.true c.requires.first c.if-keep.ensures add.adds add.hull;
+          (eqb-true _ 0 (sym c.is_empty.ensures ∙ c.if-is_empty.true)) c.requires.first c.if-keep.ensures add.adds add.hull;
     }
 
 pub returns-else-keep : goal.returns-else-keep
 returns-else-keep c =
     record {
       sound = c.requires.work;
-      drawn = strip_no_first c.args.operation c.args.top c.args.bottom c.args.first.now c.args.second.now c.args.work.now c.if-second-eq0.true
+      drawn = strip_no_first c.args.operation c.args.top c.args.bottom c.args.first.now c.args.second.now c.args.work.now (eqb-true _ 0 (sym c.is_empty.ensures ∙ c.if-is_empty.true))
           c.if-keep.ensures;
     }
 
@@ -25,14 +27,14 @@ returns-then-keep-2 c =
     record {
       sound = add.sound;
       drawn = strip_second c.args.operation c.args.top c.args.bottom c.args.first.now c.args.second.now c.args.work.now c.add-then-keep-2.new.self
-          c.if-first-eq0.true c.requires.second c.if-keep-2.ensures add.adds add.hull;
+          (eqb-true _ 0 (sym c.is_empty-2.ensures ∙ c.if-is_empty-2.true)) c.requires.second c.if-keep-2.ensures add.adds add.hull;
     }
 
 pub returns-else-keep-2 : goal.returns-else-keep-2
 returns-else-keep-2 c =
     record {
       sound = c.requires.work;
-      drawn = strip_no_second c.args.operation c.args.top c.args.bottom c.args.first.now c.args.second.now c.args.work.now c.if-first-eq0.true
+      drawn = strip_no_second c.args.operation c.args.top c.args.bottom c.args.first.now c.args.second.now c.args.work.now (eqb-true _ 0 (sym c.is_empty-2.ensures ∙ c.if-is_empty-2.true))
           c.if-keep-2.ensures;
     }
 
