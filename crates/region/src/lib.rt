@@ -6,6 +6,7 @@ mod place;
 mod regions;
 mod row;
 mod sweep;
+mod way;
 mod work;
 
 pub use operation::Operation;

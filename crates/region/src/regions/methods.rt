@@ -6,13 +6,14 @@ ghost use Rattle.boxes.specs.Moves.{staying};
 ghost use Rattle.boxes.specs.Regions.{RegionOf, Worked, box_at};
 ghost use Rattle.region.specs.Held.{held};
 ghost use Rattle.region.specs.Sets.{kept};
-ghost use Rattle.region.specs.Shifts.{Kept, move_onto};
+ghost use Rattle.region.specs.Shifts.{Kept};
 ghost use Rattle.screen.specs.Rects.{holds, on_screen};
-ghost use Rattle.std.specs.Prelude.{◌≡◌, ℕ, ◌+◌, ◌-◌, ◌≤◌, min, true, false, ◌&&◌, [], ◌∷◌, map, length, Any, Decides, IsTrue, ◌↔◌};
+ghost use Rattle.std.specs.Prelude.{◌≡◌, ℕ, ◌≤◌, true, false, ◌&&◌, [], ◌∷◌, length, Any, Decides, IsTrue, ◌↔◌};
 
 use super::{Corner, Region};
 use crate::operation::Operation;
 use crate::sweep::sweep;
+use crate::way::Way;
 use boxes::CellBox;
 use screen::Rect;
 
@@ -32,53 +33,15 @@ fn any_meets(boxes: &[CellBox], other: &CellBox) -> bool
     boxes.iter().any(|b| b.meets(other))
 }
 
-// The box of the cells that stay on the largest screen when they are moved from one corner to another.
-fn staying_box(from: Corner, to: Corner) -> CellBox
-    ensures { result ≡ staying from.x from.y to.x to.y }
+// The cells that stay on the largest screen when they are moved.
+fn staying_cells(way: Way) -> Region
+    ensures { Kept (staying way.from.x way.from.y way.to.x way.to.y) (held result) }
 {
-    CellBox {
-        left: from.x.saturating_sub(to.x),
-        top: from.y.saturating_sub(to.y),
-        right: 256u16.saturating_sub(to.x.saturating_sub(from.x)),
-        bottom: 256u16.saturating_sub(to.y.saturating_sub(from.y)),
-    }
-}
-
-// Those cells as a region.
-fn staying_cells(from: Corner, to: Corner) -> Region
-    ensures { Kept (staying from.x from.y to.x to.y) (held result) }
-{
-    let b = staying_box(from, to);
+    let b = way.staying();
     if b.left < b.right && b.top < b.bottom {
         return single(b);
     }
     Region::empty()
-}
-
-// Where a column or a row comes to, on the largest screen.
-fn moved(n: u16, from: u16, to: u16) -> u16
-    ensures { result ≡ min 256 (n + to - from) }
-{
-    let sum = u32::from(n) + u32::from(to);
-    sum.saturating_sub(u32::from(from)).min(256) as u16
-}
-
-// Moves a box that is lent.
-fn move_box(b: &mut CellBox, from: Corner, to: Corner)
-    ensures { b.new ≡ move_onto from.x from.y to.x to.y b.old }
-{
-    b.left = moved(b.left, from.x, to.x);
-    b.top = moved(b.top, from.y, to.y);
-    b.right = moved(b.right, from.x, to.x);
-    b.bottom = moved(b.bottom, from.y, to.y);
-}
-
-fn move_all(boxes: &mut [CellBox], from: Corner, to: Corner)
-    ensures { boxes.new ≡ map (move_onto from.x from.y to.x to.y) boxes.old }
-{
-    for b in boxes.iter_mut() {
-        move_box(b, from, to);
-    }
 }
 
 impl Region {
@@ -173,10 +136,11 @@ impl Region {
         ensures region { RegionOf (shifted from.x from.y to.x to.y (held self.now)) (held result) }
         ensures exact { SameCells (has (held result)) (shifted from.x from.y to.x to.y (held self.now)) }
     {
-        let part = self.cut(&staying_cells(from, to));
+        let way = Way { from, to };
+        let part = self.cut(&staying_cells(way));
         let count = part.count;
         let mut boxes = part.boxes;
-        move_all(&mut boxes[0..count], from, to);
+        way.move_all(&mut boxes[0..count]);
         Region { boxes, count }
     }
 
