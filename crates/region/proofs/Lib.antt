@@ -1,3 +1,4 @@
+mod Fewer
 mod Leads
 mod Strips
 mod Adding

@@ -1,7 +1,6 @@
 -- What is asked of a region's boxes.
-use Rattle.std.proofs.Common.{◌≡◌, ℕ, zero, suc, ◌+◌, ◌<◌, ◌≤◌, Bool, true, false, ◌&&◌, ◌||◌, eqb, List, [], ◌∷◌, ◌++◌, length, get_or, take, Decides, sym, refl, ap, ◌∙◌, subst, ap₂, inl, inr, arith}
-use Rattle.std.proofs.lemmas.List.{take_all, take_more}
-use Rattle.std.proofs.lemmas.Bool.{and_parts, both_ways, cases_Bool, eq-eqb, eqb-true}
+use Rattle.std.proofs.Common.{◌≡◌, ℕ, Bool, true, false, ◌&&◌, ◌||◌, eqb, List, [], ◌∷◌, length, Decides, sym, refl, ap, ◌∙◌, subst, ap₂, arith}
+use Rattle.std.proofs.lemmas.Bool.{and_parts, both_ways, eq-eqb, eqb-true}
 use Rattle.std.specs.List.{Any, list_any}
 use Rattle.std.proofs.lemmas.List.Folds.{Any-from_list_any, list_any-from_Any}
 use Rattle.std.proofs.lemmas.List.Recursion.{same_from_clauses}
@@ -10,12 +9,10 @@ use Rattle.screen.specs.Rects.{holds}
 use Rattle.boxes.specs.declared.cell_box.CellBox.{CellBox}
 use Rattle.boxes.specs.Banded.{Banded}
 use Rattle.boxes.specs.Cells.{SameCells, has, in_box, none, of_rect, on_largest}
-use Rattle.boxes.specs.Regions.{no_box}
 use Rattle.boxes.proofs.Laws.{only_empty}
 use Rattle.boxes.proofs.Adding.{seen_largest}
 use Rattle.boxes.proofs.Rules.{unique}
 use Rattle.boxes.proofs.Shifting.{banded_seen}
-use Rattle.boxes.proofs.Unique.{has-++, or_false}
 
 -- a cell that two sets share
 abbrev pub Common : (ℕ → ℕ → Bool) → (ℕ → ℕ → Bool) → Type 0

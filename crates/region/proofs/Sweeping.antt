@@ -1,7 +1,5 @@
 -- Strips of rows, drawn one below the other.
-use Rattle.std.proofs.Common.{◌≡◌, ℕ, ◌-◌, ◌<◌, ◌≤◌, min, Bool, true, false, ◌&&◌, List, [], ◌∷◌, length, take, sym, refl, ap, ◌∙◌, subst, ap₂, arith}
-use native.Mathlib.Nat.{sub-zero}
-use Rattle.std.proofs.lemmas.Bool.{both_ways}
+use Rattle.std.proofs.Common.{◌≡◌, ℕ, ◌<◌, ◌≤◌, min, Bool, true, false, ◌&&◌, List, [], ◌∷◌, length, sym, refl, ap, ◌∙◌, ap₂, arith}
 use Rattle.boxes.specs.declared.cell_box.CellBox.{CellBox}
 use Rattle.boxes.specs.Banded.{Span}
 use Rattle.boxes.specs.Bands.{Apart, in_spans}
@@ -16,7 +14,7 @@ use Rattle.region.specs.Places.{turn_of}
 use Rattle.region.specs.Rows.{Merged, spans}
 use Rattle.region.specs.Sets.{keeps, kept}
 use Rattle.region.specs.Sweeps.{Painting, Strip}
-use Rattle.region.specs.Works.{Adds}
+use Rattle.region.specs.Works.{Adds, Holds}
 use Rattle.region.proofs.Strips.{At, Sorted, at_row, shown_runs}
 
 -- a row with cells of one list only is kept as it is, or not at all
@@ -89,30 +87,13 @@ pub strip_no_second :
 strip_no_second op t e ps qs w n off = strip_none op t e (spans ps) (spans qs) w (merged_no_second op (spans ps) (spans qs) (empty_spans ps n) off)
 
 pub strip_both :
-    (op : Operation) (t e n : ℕ) (ps qs : List Span) (runs : List CellBox) (w w' : Work) → Merged op ps qs (spans (take n runs))
-    → Adds t e (spans (take (n - 0) runs)) w w' → w'.hull ≡ stretched t e (spans (take (n - 0) runs)) w.hull → Strip op t e ps qs w w'
-strip_both op t e n ps qs runs w w' m adds hull =
-    record {
-      row = spans (take n runs);
-      merged = m;
-      adds = subst (λ k. Adds t e (spans (take k runs)) w w') (sub-zero n) adds;
-      hull = subst (λ k. w'.hull ≡ stretched t e (spans (take k runs)) w.hull) (sub-zero n) hull;
-    }
+    (op : Operation) (t e : ℕ) (ps qs : List Span) (runs : List CellBox) (w w' : Work) → Merged op ps qs (spans runs)
+    → Adds t e (spans runs) w w' → w'.hull ≡ stretched t e (spans runs) w.hull → Strip op t e ps qs w w'
+strip_both op t e ps qs runs w w' m adds hull = record { row = spans runs; merged = m; adds = adds; hull = hull }
 
 -- nothing is drawn at first
-pub painting_none : (c : ℕ → ℕ → Bool) (w : Work) → w.count ≡ 0 → w.start ≡ 0 → w.over ≡ false → w.hull ≡ outline [] → Painting c 0 w
-painting_none c w n s o h =
-    record {
-      bands = [];
-      holds = record {
-        count = omega arith;
-        boxes = λ _. ap (λ k. take k w.boxes) n;
-        start = λ _. s;
-        over = λ on. absurd (both_ways w.over o on);
-      };
-      painted = painted_none c;
-      hull = h;
-    }
+pub painting_none : (c : ℕ → ℕ → Bool) (w : Work) → Holds w [] → w.hull ≡ outline [] → Painting c 0 w
+painting_none c w h hull = record { bands = []; holds = h; painted = painted_none c; hull = hull }
 
 -- the strip from t to e, where the lists have the runs ps and qs
 pub painting_add :

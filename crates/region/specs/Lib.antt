@@ -1,3 +1,4 @@
+pub mod Fews
 pub mod Held
 pub mod Places
 pub mod Rows

@@ -1,6 +1,8 @@
 // Regions: sets of cells, as at most 32 boxes in banded form.
 #![tactic(auto)]
 
+mod drawn;
+mod few;
 mod operation;
 mod place;
 mod regions;

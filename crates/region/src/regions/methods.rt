@@ -11,6 +11,7 @@ ghost use Rattle.screen.specs.Rects.{holds, on_screen};
 ghost use Rattle.std.specs.Prelude.{◌≡◌, ℕ, ◌≤◌, true, false, ◌&&◌, [], ◌∷◌, length, Any, Decides, IsTrue, ◌↔◌};
 
 use super::{Corner, Region};
+use crate::few::Few;
 use crate::operation::Operation;
 use crate::sweep::sweep;
 use crate::way::Way;
@@ -22,8 +23,7 @@ fn single(b: CellBox) -> Region
     requires { Proper b }
     ensures { held result ≡ b ∷ [] }
 {
-    let boxes = [b; 32];
-    Region { boxes, count: 1 }
+    Region { boxes: Few::one(b) }
 }
 
 // Whether one of the boxes has a cell in common with another box.
@@ -50,13 +50,7 @@ impl Region {
         ensures boxes { held result ≡ [] }
         ensures cells { SameCells (has (held result)) none }
     {
-        let boxes = [CellBox {
-            left: 0,
-            top: 0,
-            right: 0,
-            bottom: 0,
-        }; 32];
-        Region { boxes, count: 0 }
+        Region { boxes: Few::new() }
     }
 
     // The boxes, in order.
@@ -66,8 +60,7 @@ impl Region {
         ensures few { length result.now ≤ 32 }
         ensures laws { Laws }
     {
-        let count = self.count;
-        &self.boxes[0..count]
+        self.boxes.as_slice()
     }
 
     // The cells of a rectangle that are on the largest screen.
@@ -86,13 +79,9 @@ impl Region {
         ensures { RegionOf (kept operation (held self.now) (held other.now)) (held result) }
     {
         let work = sweep(operation, self.boxes(), other.boxes());
-        if work.over {
-            return single(work.hull);
-        }
-        let boxes = work.boxes;
-        Region {
-            boxes,
-            count: work.count,
+        match work.drawn {
+            Some(drawn) => Region { boxes: drawn.boxes },
+            None => single(work.hull),
         }
     }
 
@@ -137,11 +126,9 @@ impl Region {
         ensures exact { SameCells (has (held result)) (shifted from.x from.y to.x to.y (held self.now)) }
     {
         let way = Way { from, to };
-        let part = self.cut(&staying_cells(way));
-        let count = part.count;
-        let mut boxes = part.boxes;
-        way.move_all(&mut boxes[0..count]);
-        Region { boxes, count }
+        let mut part = self.cut(&staying_cells(way));
+        part.boxes.shift(way);
+        part
     }
 
     pub fn is_empty(&self) -> bool

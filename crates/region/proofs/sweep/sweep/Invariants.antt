@@ -1,14 +1,12 @@
 use Rattle.std.proofs.Common.{◌-◌, ◌≤◌}
 use Rattle.region.specs.Sets.{kept}
 use Rattle.region.specs.Sweeps.{Painting}
-use Rattle.region.specs.Works.{Sound}
 use Rattle.region.proofs.Strips.{At}
 use Rattle.region.proofs.sweep.sweep.Given as goal
 
 abbrev pub invariant-loop-y : goal.invariant-loop-y
 invariant-loop-y l =
     (l.y ≤ 256)
-    × Sound l.work
     × At l.first l.p l.y
     × At l.second l.q l.y
     × Painting (kept l.operation l.first l.second) l.y l.work

@@ -7,7 +7,6 @@ use Rattle.region.proofs.row.Row.merge.Given as goal
 abbrev pub invariant-loop-i : goal.invariant-loop-i
 invariant-loop-i l =
     (l.x ≤ 256)
-    × (l.self.count ≤ 128)
     × Along l.first l.i l.x
     × Along l.second l.j l.x
     × Drawn (kept_row l.operation l.first l.second) l.x (runs_of l.self)

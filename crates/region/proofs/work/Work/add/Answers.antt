@@ -1,13 +1,11 @@
-use Rattle.std.proofs.Common.{◌≡◌, ◌<◌, length, refl, ◌∙◌, arith}
-use Rattle.region.specs.Rows.{spans}
-use Rattle.region.proofs.Holding.{adds_apart, adds_none, stretched_none, stretched_some}
+use Rattle.std.proofs.Common.{◌≡◌, length, ◌∙◌, arith}
+use Rattle.region.proofs.Holding.{adds_none, stretched_none, stretched_some}
 use Rattle.region.proofs.work.Work.add.Goals as goal
 
 pub returns-in_default : goal.returns-in_default
 returns-in_default c =
     let none : length c.args.runs.now ≡ 0 = grind arith in
     record {
-      sound = c.requires;
       adds = adds_none c.args.top c.args.bottom c.args.runs.now c.args.self.now none;
       hull = stretched_none c.args.top c.args.bottom c.args.runs.now c.args.self.now.hull none;
     }
@@ -16,7 +14,6 @@ pub returns-in_default-2 : goal.returns-in_default-2
 returns-in_default-2 c =
     let none : length c.args.runs.now ≡ 0 = grind arith in
     record {
-      sound = c.requires;
       adds = adds_none c.args.top c.args.bottom c.args.runs.now c.args.self.now none;
       hull = stretched_none c.args.top c.args.bottom c.args.runs.now c.args.self.now.hull none;
     }
@@ -27,8 +24,7 @@ returns c =
     let first = c.in-Some-Some.ensures.item in
     let last = c.in-Some-Some.ensures'.item in
     record {
-      sound = put.sound;
-      adds = adds_apart c.args.top c.args.bottom (spans c.args.runs.now) c.args.self.now _ c.put.new.self refl refl refl refl put.adds;
+      adds = put.adds;
       hull = stretched_some c.args.top c.args.bottom c.args.runs.now c.args.self.now.hull c.put.new.self.hull _ _ first.3.0 first.1 last.1
           (put.hull ∙ c.hull_of-self.ensures);
     }

@@ -1,10 +1,10 @@
-use Rattle.std.proofs.Common.{length, sym, ◌∙◌, rules, tests}
+use Rattle.std.proofs.Common.{length, ◌∙◌, rules, tests}
 use Rattle.std.proofs.lemmas.Bool.{ne_eqb}
 use Rattle.std.proofs.lemmas.Iterator.{YieldsList-from_slice, YieldsList-from_zip}
 use Rattle.std.proofs.lemmas.Iterator.Search.{all_from_yields_List}
 use Rattle.region.specs.Works.{same_run}
 use Rattle.region.proofs.Edges.{edges_lengths, edges_zipped}
-use Rattle.region.proofs.work.same_edges.Goals as goal
+use Rattle.region.proofs.drawn.methods.same_edges.Goals as goal
 
 pub returns-then-band-runs : goal.returns-then-band-runs
 returns-then-band-runs c =
