@@ -7,7 +7,7 @@ use Rattle.boxes.specs.declared.cell_box.CellBox.{CellBox}
 use Rattle.boxes.specs.Banded.{Span, span}
 use Rattle.boxes.specs.Strips.{Drawn, limit}
 use Rattle.boxes.proofs.Drawing.{apart_size, drawn_push, drawn_widen, last_run, limit_before, limit_none, limit_push}
-use Rattle.region.specs.Fews.{widened_last}
+use Rattle.region.specs.Listed.{widened_last}
 use Rattle.region.specs.Rows.{Fits, add_run, ends_at, spans}
 
 abbrev pub run : ℕ → ℕ → Span

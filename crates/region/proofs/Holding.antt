@@ -10,7 +10,7 @@ use Rattle.boxes.specs.Strips.{add_band, goes_on, grown, last_right, lower_all, 
 use Rattle.boxes.proofs.Adding.{grows, length_flat, lower_boxes, some_runs}
 use Rattle.region.specs.declared.work.Work.{Work}
 use Rattle.region.specs.Rows.{spans}
-use Rattle.region.specs.Fews.{listed}
+use Rattle.region.specs.Listed.{listed}
 use Rattle.region.specs.Works.{Adds, Grown, Holds, Pushed, Stands, goes_on_boxes}
 use Rattle.region.specs.declared.drawn.Drawn.{Drawn}
 

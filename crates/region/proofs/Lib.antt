@@ -1,4 +1,4 @@
-mod Fewer
+mod Widening
 mod Leads
 mod Strips
 mod Adding

@@ -1,5 +1,5 @@
 -- What is drawn in the end is the region of the cells that the operation keeps.
-use Rattle.std.proofs.Common.{◌≡◌, MatchOption, Some, None, ℕ, ◌<◌, ◌≤◌, Bool, true, false, ◌&&◌, ◌||◌, leb, List, [], ◌∷◌, length, sym, refl, ap, ◌∙◌, subst, ap₂, arith, length-take}
+use Rattle.std.proofs.Common.{◌≡◌, MatchOption, Option, Some, None, ℕ, ◌<◌, ◌≤◌, Bool, true, false, ◌&&◌, ◌||◌, leb, List, [], ◌∷◌, length, sym, refl, ap, ◌∙◌, subst, ap₂, arith, length-take}
 use Rattle.std.proofs.lemmas.Bool.{cond-false, cond-true}
 use Rattle.std.proofs.lemmas.Bool.Decides.{nat_tests}
 use Rattle.screen.specs.declared.rect.Rect.{Rect}
@@ -20,7 +20,7 @@ use Rattle.region.specs.declared.operation.Operation.TheVariants.{Join, Cut, Awa
 use Rattle.region.specs.declared.drawn.Drawn.{Drawn}
 use Rattle.region.specs.declared.few.Few.{Few}
 use Rattle.region.specs.declared.work.Work.{Work}
-use Rattle.region.specs.Fews.{listed}
+use Rattle.region.specs.Listed.{listed}
 use Rattle.region.specs.Sets.{keeps, kept}
 use Rattle.region.specs.Sweeps.{Painting}
 use Rattle.region.specs.Works.{Stands}
@@ -74,11 +74,7 @@ module _ (op : Operation) (ps qs : List CellBox) (p : Banded ps) (q : Banded qs)
   drawn_is : (b : Drawn) → w.drawn ≡ Some b → Stands d.bands b
   drawn_is b is = subst (λ o. MatchOption o (32 < length (flat d.bands)) (Stands d.bands)) is d.holds
 
-  -- at most 32 boxes
-  pub few_banded : (b : Drawn) → w.drawn ≡ Some b → Banded (listed b.boxes)
-  few_banded b is = subst Banded (sym (drawn_is b is).boxes) exact_banded
-
-  pub few_region : (b : Drawn) → w.drawn ≡ Some b → RegionOf (kept op ps qs) (listed b.boxes)
+  few_region : (b : Drawn) → w.drawn ≡ Some b → RegionOf (kept op ps qs) (listed b.boxes)
   few_region b is =
       let s : Stands d.bands b = drawn_is b is in
       record {
@@ -92,24 +88,29 @@ module _ (op : Operation) (ps qs : List CellBox) (p : Banded ps) (q : Banded qs)
   many : w.drawn ≡ None → 32 < length (flat d.bands)
   many over = subst (λ o. MatchOption o (32 < length (flat d.bands)) (Stands d.bands)) over d.holds
 
-  hull_covers : w.drawn ≡ None → (w.hull ≡ covering (flat d.bands)) × Proper (covering (flat d.bands))
+  hull_covers : w.drawn ≡ None → w.hull ≡ covering (flat d.bands)
   hull_covers over = go (flat d.bands) (many over) exact_banded d.hull
     where
-      go : (bs : List CellBox) → 32 < length bs → Banded bs → w.hull ≡ outline bs → (w.hull ≡ covering bs) × Proper (covering bs)
+      go : (bs : List CellBox) → 32 < length bs → Banded bs → w.hull ≡ outline bs → w.hull ≡ covering bs
       go [] h b e = absurd (omega arith)
-      go (b ∷ bs) h k e = (e ∙ outline_covering b bs k.proper, covering_proper b bs k)
+      go (b ∷ bs) h k e = e ∙ outline_covering b bs k.proper
 
-  pub many_proper : w.drawn ≡ None → Proper w.hull
-  many_proper over = let h = hull_covers over in subst Proper (sym h.0) h.1
-
-  pub many_region : w.drawn ≡ None → (rs : List CellBox) → rs ≡ w.hull ∷ [] → RegionOf (kept op ps qs) rs
+  many_region : w.drawn ≡ None → (rs : List CellBox) → rs ≡ w.hull ∷ [] → RegionOf (kept op ps qs) rs
   many_region over rs e =
       record {
         exact = flat d.bands;
         banded = exact_banded;
         same = exact_cells;
-        boxes = e ∙ ap (λ b. b ∷ []) (hull_covers over).0 ∙ sym (limited_many (flat d.bands) (many over));
+        boxes = e ∙ ap (λ b. b ∷ []) (hull_covers over) ∙ sym (limited_many (flat d.bands) (many over));
       }
+
+  -- so the work's boxes are the region's
+  pub work_region : (few : Few 32) → MatchOption w.drawn (listed few ≡ w.hull ∷ []) (λ b. few ≡ b.boxes) → RegionOf (kept op ps qs) (listed few)
+  work_region few is = go w.drawn refl is
+    where
+      go : (o : Option Drawn) → w.drawn ≡ o → MatchOption o (listed few ≡ w.hull ∷ []) (λ b. few ≡ b.boxes) → RegionOf (kept op ps qs) (listed few)
+      go None over e = many_region over (listed few) e
+      go (Some b) drawn e = subst (λ f. RegionOf (kept op ps qs) (listed f)) (sym e) (few_region b drawn)
 
 -- the region of a box, and the empty one
 pub none_banded : Banded []

@@ -1,5 +1,5 @@
-pub mod Fews
 pub mod Held
+pub mod Listed
 pub mod Places
 pub mod Rows
 pub mod Sets

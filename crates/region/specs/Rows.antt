@@ -5,7 +5,7 @@ use Rattle.boxes.specs.Banded.{Span, span}
 use Rattle.boxes.specs.Bands.{Apart, in_spans}
 use Rattle.boxes.specs.Regions.{no_box}
 use Rattle.boxes.specs.Strips.{limit}
-use Rattle.region.specs.Fews.{listed}
+use Rattle.region.specs.Listed.{listed}
 use Rattle.region.specs.Sets.{keeps}
 use Rattle.region.specs.declared.operation.Operation.{Operation}
 use Rattle.region.specs.declared.row.Row.{Row}

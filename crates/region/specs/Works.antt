@@ -5,7 +5,7 @@ use Rattle.boxes.specs.Banded.{Span}
 use Rattle.boxes.specs.Bands.{Band, Stack, boxes_of, flat}
 use Rattle.boxes.specs.Strips.{add_band, lower_all, same_runs}
 use Rattle.region.specs.Rows.{spans}
-use Rattle.region.specs.Fews.{listed}
+use Rattle.region.specs.Listed.{listed}
 use Rattle.region.specs.declared.drawn.Drawn.{Drawn}
 use Rattle.region.specs.declared.work.Work.{Work}
 

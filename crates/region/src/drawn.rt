@@ -1,5 +1,5 @@
 // What an operation has drawn: the boxes of bands, from the top down.
-ghost use Rattle.region.specs.Fews.{listed};
+ghost use Rattle.region.specs.Listed.{listed};
 ghost use Rattle.std.specs.Prelude.{◌≤◌, length};
 
 mod methods;

@@ -1,6 +1,6 @@
 // A set of cells of the largest screen, which has 256 × 256 cells.
 ghost use Rattle.boxes.specs.Banded.{Banded};
-ghost use Rattle.region.specs.Fews.{listed};
+ghost use Rattle.region.specs.Listed.{listed};
 
 mod methods;
 

@@ -1,11 +1,13 @@
 // The result of an operation, as far as it is drawn: band by band, from the top down.
 ghost use Rattle.boxes.specs.Regions.{hull};
 ghost use Rattle.boxes.specs.Strips.{nothing, stretched};
+ghost use Rattle.region.specs.Listed.{listed};
 ghost use Rattle.region.specs.Rows.{spans};
 ghost use Rattle.region.specs.Works.{Adds, Holds};
-ghost use Rattle.std.specs.Prelude.{◌≡◌, ◌<◌, [], length};
+ghost use Rattle.std.specs.Prelude.{◌≡◌, ◌<◌, [], ◌∷◌, length, MatchOption};
 
 use crate::drawn::Drawn;
+use crate::few::Few;
 use boxes::CellBox;
 
 // What is drawn, unless it has come to more than 32 boxes. `hull` is the box around them all.
@@ -64,6 +66,7 @@ impl Work {
     }
 
     // Adds the rows from `top` up to `bottom`, each with the same runs.
+    #[tactic(auto, using(crate::proofs::Holding::adds_none, crate::proofs::Holding::stretched_none))]
     pub(crate) fn add(&mut self, top: u16, bottom: u16, runs: &[CellBox])
         ensures adds { Adds top bottom (spans runs.now) self.old self.new }
         ensures hull { self.new.hull ≡ stretched top bottom (spans runs.now) self.old.hull }
@@ -79,5 +82,15 @@ impl Work {
         };
         self.hull = hull_of(self.hull, around);
         self.put(top, bottom, runs);
+    }
+
+    // The boxes of the region: those drawn, or the one around them all where they are too many.
+    pub(crate) fn boxes(&self) -> Few<32>
+        ensures { MatchOption self.now.drawn (listed result ≡ self.now.hull ∷ []) (λ d. result ≡ d.boxes) }
+    {
+        match &self.drawn {
+            Some(drawn) => drawn.boxes,
+            None => Few::one(self.hull),
+        }
     }
 }

@@ -1,6 +1,6 @@
 // How bands are added to what is drawn.
 ghost use Rattle.boxes.specs.Strips.{same_runs};
-ghost use Rattle.region.specs.Fews.{listed};
+ghost use Rattle.region.specs.Listed.{listed};
 ghost use Rattle.region.specs.Rows.{spans};
 ghost use Rattle.region.specs.Works.{Grown, Pushed, Stands, goes_on_boxes, same_run};
 ghost use Rattle.std.specs.Prelude.{◌≡◌, ◌+◌, ◌≤◌, [], drop, length};

@@ -1,6 +1,6 @@
 // What a few boxes do.
 ghost use Rattle.boxes.specs.Strips.{lower_all, lowered};
-ghost use Rattle.region.specs.Fews.{listed, widened_last};
+ghost use Rattle.region.specs.Listed.{listed, widened_last};
 ghost use Rattle.region.specs.Shifts.{move_onto};
 ghost use Rattle.std.specs.Prelude.{◌≡◌, ◌+◌, ◌<◌, ◌≤◌, [], ◌∷◌, ◌++◌, drop, length, map, take};
 

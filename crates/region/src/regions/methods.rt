@@ -8,7 +8,7 @@ ghost use Rattle.region.specs.Held.{held};
 ghost use Rattle.region.specs.Sets.{kept};
 ghost use Rattle.region.specs.Shifts.{Kept};
 ghost use Rattle.screen.specs.Rects.{holds, on_screen};
-ghost use Rattle.std.specs.Prelude.{◌≡◌, ℕ, ◌≤◌, true, false, ◌&&◌, [], ◌∷◌, length, Any, Decides, IsTrue, ◌↔◌};
+ghost use Rattle.std.specs.Prelude.{◌≡◌, ℕ, ◌≤◌, true, false, ◌&&◌, [], ◌∷◌, length, Any, Decides};
 
 use super::{Corner, Region};
 use crate::few::Few;
@@ -28,7 +28,7 @@ fn single(b: CellBox) -> Region
 
 // Whether one of the boxes has a cell in common with another box.
 fn any_meets(boxes: &[CellBox], other: &CellBox) -> bool
-    ensures { IsTrue result ↔ Any (λ b. (x y : ℕ) × (in_box b x y && in_box other.now x y) ≡ true) boxes.now }
+    ensures { Decides result (Any (λ b. (x y : ℕ) × (in_box b x y && in_box other.now x y) ≡ true) boxes.now) }
 {
     boxes.iter().any(|b| b.meets(other))
 }
@@ -79,9 +79,8 @@ impl Region {
         ensures { RegionOf (kept operation (held self.now) (held other.now)) (held result) }
     {
         let work = sweep(operation, self.boxes(), other.boxes());
-        match work.drawn {
-            Some(drawn) => Region { boxes: drawn.boxes },
-            None => single(work.hull),
+        Region {
+            boxes: work.boxes(),
         }
     }
 

@@ -1,5 +1,5 @@
 use Rattle.std.proofs.Common.{◌∙◌, arith}
-use Rattle.region.specs.Fews.{listed}
+use Rattle.region.specs.Listed.{listed}
 use Rattle.region.proofs.Edges.{push_all, push_length, push_more}
 use Rattle.region.proofs.drawn.Drawn.push.Goals as goal
 

@@ -1,6 +1,6 @@
 use Rattle.std.proofs.Common.{◌≡◌, ◌++◌, length, take}
 use Rattle.boxes.specs.Bands.{boxes_of}
-use Rattle.region.specs.Fews.{listed}
+use Rattle.region.specs.Listed.{listed}
 use Rattle.region.specs.Rows.{spans}
 use Rattle.region.proofs.drawn.Drawn.push.Given as goal
 

@@ -1,5 +1,5 @@
 use Rattle.std.proofs.Common.{arith}
-use Rattle.region.proofs.Fewer.{widens_last}
+use Rattle.region.proofs.Widening.{widens_last}
 use Rattle.region.proofs.few.Few.widen_last.Goals as goal
 
 pub returns-then-self-gt0 : goal.returns-then-self-gt0

@@ -1,5 +1,5 @@
 use Rattle.boxes.proofs.Rules.{given}
-use Rattle.region.specs.Fews.{listed}
+use Rattle.region.specs.Listed.{listed}
 use Rattle.region.specs.Held.{held}
 use Rattle.region.proofs.Results.{at_most}
 use Rattle.region.proofs.Shifted.{shift_moves}

@@ -1,5 +1,5 @@
 use Rattle.std.proofs.Common.{sym, refl, ap, ◌∙◌, arith}
-use Rattle.region.specs.Fews.{listed}
+use Rattle.region.specs.Listed.{listed}
 use Rattle.region.specs.Rows.{spans}
 use Rattle.region.proofs.Adding.{runs_room, spans_pushed, spans_widened}
 use Rattle.region.proofs.row.Row.add.Goals as goal

@@ -2,22 +2,6 @@ use Rattle.std.proofs.Common.{◌≡◌, length, ◌∙◌, arith}
 use Rattle.region.proofs.Holding.{adds_none, stretched_none, stretched_some}
 use Rattle.region.proofs.work.Work.add.Goals as goal
 
-pub returns-in_default : goal.returns-in_default
-returns-in_default c =
-    let none : length c.args.runs.now ≡ 0 = grind arith in
-    record {
-      adds = adds_none c.args.top c.args.bottom c.args.runs.now c.args.self.now none;
-      hull = stretched_none c.args.top c.args.bottom c.args.runs.now c.args.self.now.hull none;
-    }
-
-pub returns-in_default-2 : goal.returns-in_default-2
-returns-in_default-2 c =
-    let none : length c.args.runs.now ≡ 0 = grind arith in
-    record {
-      adds = adds_none c.args.top c.args.bottom c.args.runs.now c.args.self.now none;
-      hull = stretched_none c.args.top c.args.bottom c.args.runs.now c.args.self.now.hull none;
-    }
-
 pub returns : goal.returns
 returns c =
     let put = c.put.ensures in

@@ -2,7 +2,7 @@
 use Rattle.std.proofs.Common.{◌≡◌, ℕ, zero, suc, ◌-◌, ◌<◌, ◌≤◌, List, [], ◌∷◌, length, get_or, take, set, refl, ap, subst, arith}
 use Rattle.boxes.specs.declared.cell_box.CellBox.{CellBox}
 use Rattle.boxes.specs.Regions.{no_box}
-use Rattle.region.specs.Fews.{widened, widened_last}
+use Rattle.region.specs.Listed.{widened, widened_last}
 
 widens_at : (r : ℕ) (bs : List CellBox) (m : ℕ) → m < length bs → take (suc m) (set bs m (widened r (get_or bs m no_box))) ≡ widened_last r (take (suc m) bs)
 widens_at r [] m h = absurd (omega arith)
