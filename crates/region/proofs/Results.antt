@@ -10,7 +10,6 @@ use Rattle.boxes.specs.Cells.{SameCells, either, has, in_box, none, of_rect, on_
 use Rattle.boxes.specs.Regions.{RegionOf, box_at, covering, limited}
 use Rattle.boxes.specs.Strips.{outline}
 use Rattle.boxes.proofs.Adding.{and_true, painted_cells, stack_seen, seen_largest}
-use Rattle.boxes.proofs.Covering.{covering_proper}
 use Rattle.boxes.proofs.One.{worked}
 use Rattle.boxes.proofs.Outlines.{outline_covering}
 use Rattle.boxes.proofs.Rules.{box_banded, from_bands, to_bands}

@@ -1,5 +1,5 @@
-use Rattle.std.proofs.Common.{◌≡◌, length, ◌∙◌, arith}
-use Rattle.region.proofs.Holding.{adds_none, stretched_none, stretched_some}
+use Rattle.std.proofs.Common.{◌∙◌}
+use Rattle.region.proofs.Holding.{stretched_some}
 use Rattle.region.proofs.work.Work.add.Goals as goal
 
 pub returns : goal.returns
