@@ -50,9 +50,8 @@ free l ss f other =
       | inr last ↦
           (let ends : limit 0 ss ≡ last.1.right + 1 = ap (limit 0) last.2 ∙ limit_push 0 last.0 last.1 in
           let off : eqb last.1.right l ≡ false = sym (ends_last l last.0 last.1) ∙ ap (λ z. ends_at z l) (sym last.2) ∙ other in
-          let differ : last.1.right ≡ l → ⊥ = λ e. both_ways (eqb last.1.right l) off (eq-eqb last.1.right l e) in
           elim (cases_eq last.1.right l) [
-            | inl same ↦ absurd (differ same)
+            | inl same ↦ absurd (both_ways (eqb last.1.right l) off (eq-eqb last.1.right l same))
             | inr differ ↦ omega (arith, ends, f.near, differ)
           ])
     ]

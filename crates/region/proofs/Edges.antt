@@ -1,10 +1,12 @@
 -- The boxes of a band in an array: compared, lowered, added.
-use Rattle.std.proofs.Common.{◌≡◌, ℕ, suc, ◌+◌, ◌<◌, ◌≤◌, Bool, true, false, ◌&&◌, List, [], ◌∷◌, ◌++◌, map, length, get_or, take, drop, set, sym, refl, ap, ◌∙◌, ap₂, arith}
+use Rattle.std.proofs.Common.{◌≡◌, ℕ, ◌+◌, ◌<◌, ◌≤◌, Bool, true, false, ◌&&◌, List, [], ◌∷◌, ◌++◌, map, length, get_or, take, drop, set, sym, refl, ap, ◌∙◌, ap₂, arith}
 use Rattle.std.specs.List.{list_all, zip}
 use Rattle.std.proofs.lemmas.List.Edits.{map_over_more}
-use Rattle.std.proofs.lemmas.List.{append_assoc, append-nil, length-append, drop_all, get_or_default, length-take-le, take_all, take_more}
+use Rattle.std.proofs.lemmas.List.{append_assoc, append-nil, length-append, drop_all, get_or_default, length-map, length-take-le, take_all, take_more}
 use Rattle.boxes.specs.declared.cell_box.CellBox.{CellBox}
+use Rattle.boxes.specs.Banded.{span}
 use Rattle.boxes.specs.Bands.{boxes_of}
+use Rattle.boxes.proofs.Adding.{length_boxes}
 use Rattle.boxes.specs.Regions.{no_box}
 use Rattle.boxes.specs.Strips.{same_runs}
 use Rattle.region.specs.Rows.{spans}
@@ -46,10 +48,6 @@ boxes_push : (t e : ℕ) (runs : List CellBox) (r : CellBox) → boxes_of t e (s
 boxes_push t e [] r = refl
 boxes_push t e (q ∷ runs) r = ap (λ l. placed t e q ∷ l) (boxes_push t e runs r)
 
-length_boxes : (t e : ℕ) (runs : List CellBox) → length (boxes_of t e (spans runs)) ≡ length runs
-length_boxes t e [] = refl
-length_boxes t e (r ∷ runs) = ap suc (length_boxes t e runs)
-
 pub push_more :
     (p xs : List CellBox) (i t e : ℕ) (runs : List CellBox) → i < length runs → xs ≡ p ++ boxes_of t e (spans (take i runs))
     → xs ++ placed t e (get_or runs i no_box) ∷ [] ≡ p ++ boxes_of t e (spans (take (i + 1) runs))
@@ -68,4 +66,4 @@ pub push_length : (p xs : List CellBox) (i t e : ℕ) (runs : List CellBox) → 
 push_length p xs i t e runs h inv =
     ap length inv
     ∙ length-append p (boxes_of t e (spans (take i runs)))
-    ∙ ap (λ n. length p + n) (length_boxes t e (take i runs) ∙ length-take-le i runs h)
+    ∙ ap (λ n. length p + n) (length_boxes t e (spans (take i runs)) ∙ length-map (take i runs) span ∙ length-take-le i runs h)
