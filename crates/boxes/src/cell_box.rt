@@ -6,7 +6,7 @@ ghost use Rattle.std.specs.Prelude.{◌≡◌, ℕ, true, ◌&&◌, Decides, Mat
 use screen::Rect;
 
 // The cells with `left` ≤ x < `right` and `top` ≤ y < `bottom`.
-#[derive(Clone, Copy, PartialEq, Eq, Hash, Debug)]
+#[derive(Clone, Copy, PartialEq, Eq, Hash, Debug, Default)]
 pub struct CellBox {
     pub left: u16,
     pub top: u16,

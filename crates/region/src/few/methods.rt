@@ -29,12 +29,7 @@ impl<const N: usize> Few<N> {
         ensures { listed result ≡ [] }
     {
         Few {
-            boxes: [CellBox {
-                left: 0,
-                top: 0,
-                right: 0,
-                bottom: 0,
-            }; N],
+            boxes: [CellBox::default(); N],
             count: 0,
         }
     }
