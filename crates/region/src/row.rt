@@ -38,14 +38,14 @@ impl Row {
     {
         if self.ends_at(left) {
             self.runs.widen_last(right);
-            return;
+        } else {
+            self.runs.push(CellBox {
+                left,
+                top: 0,
+                right,
+                bottom: 0,
+            });
         }
-        self.runs.push(CellBox {
-            left,
-            top: 0,
-            right,
-            bottom: 0,
-        });
     }
 
     // Adds the columns where they are kept.

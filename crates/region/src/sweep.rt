@@ -31,16 +31,14 @@ fn strip(
         if operation.keep(true, false) {
             work.add(top, bottom, first);
         }
-        return;
-    }
-    if first.is_empty() {
+    } else if first.is_empty() {
         if operation.keep(false, true) {
             work.add(top, bottom, second);
         }
-        return;
+    } else {
+        row.merge(operation, first, second);
+        work.add(top, bottom, row.runs.as_slice());
     }
-    row.merge(operation, first, second);
-    work.add(top, bottom, row.runs.as_slice());
 }
 
 // Draws what the operation keeps of two lists.

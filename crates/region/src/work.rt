@@ -56,13 +56,11 @@ impl Work {
         };
         if drawn.goes_on(top, runs) {
             drawn.grow(bottom);
-            return;
-        }
-        if runs.len() <= drawn.boxes.room() {
+        } else if runs.len() <= drawn.boxes.room() {
             drawn.push(top, bottom, runs);
-            return;
+        } else {
+            self.drawn = None;
         }
-        self.drawn = None;
     }
 
     // Adds the rows from `top` up to `bottom`, each with the same runs.

@@ -39,9 +39,10 @@ fn staying_cells(way: Way) -> Region
 {
     let b = way.staying();
     if b.left < b.right && b.top < b.bottom {
-        return single(b);
+        single(b)
+    } else {
+        Region::empty()
     }
-    Region::empty()
 }
 
 impl Region {

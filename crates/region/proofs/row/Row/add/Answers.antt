@@ -11,5 +11,5 @@ returns-then-ends_at c =
 pub push-requires : goal.push-requires
 push-requires c = (omega arith, runs_room c.args.left (listed c.args.self.now.runs) c.requires (sym c.if-ends_at.ensures))
 
-pub returns : goal.returns
-returns c = ap spans c.push.ensures ∙ spans_pushed c.args.left c.args.right (listed c.args.self.now.runs) _ (sym c.if-ends_at.ensures) refl
+pub returns-else-ends_at : goal.returns-else-ends_at
+returns-else-ends_at c = ap spans c.push.ensures ∙ spans_pushed c.args.left c.args.right (listed c.args.self.now.runs) _ (sym c.if-ends_at.ensures) refl
