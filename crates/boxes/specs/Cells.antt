@@ -51,3 +51,8 @@ but_not ps qs x y = has ps x y && not (has qs x y)
 abbrev pub shifted : ℕ → ℕ → ℕ → ℕ → List CellBox → ℕ → ℕ → Bool
 shifted fx fy tx ty bs x y =
     on_largest x y && (nat_le tx (x + fx) && nat_le ty (y + fy) && has bs (x + fx - tx) (y + fy - ty))
+
+-- a box as a rectangle, which has the box's cells
+pub record AsRect (b : CellBox) (rect : Rect) : Type 0 where
+  pub value : rect ≡ record { x = b.left; y = b.top; w = b.right - b.left; h = b.bottom - b.top }
+  pub cells : SameCells (holds rect) (in_box b)

@@ -1,13 +1,12 @@
 // A box of cells, by its edges.
 ghost use Rattle.boxes.specs.Banded.{Proper};
-ghost use Rattle.boxes.specs.Cells.{SameCells, in_box, none, of_rect};
-ghost use Rattle.screen.specs.Rects.{holds};
-ghost use Rattle.std.specs.Prelude.{◌≡◌, ℕ, ◌-◌, true, false, ◌&&◌, Decides, MatchOption};
+ghost use Rattle.boxes.specs.Cells.{AsRect, SameCells, in_box, none, of_rect};
+ghost use Rattle.std.specs.Prelude.{◌≡◌, ℕ, true, ◌&&◌, Decides, MatchOption};
 
 use screen::{Rect, Sides};
 
 // The cells with `left` ≤ x < `right` and `top` ≤ y < `bottom`.
-#[derive(Clone, Copy, PartialEq, Eq, Debug)]
+#[derive(Clone, Copy, PartialEq, Eq, Hash, Debug, Default)]
 pub struct CellBox {
     pub left: u16,
     pub top: u16,
@@ -32,19 +31,6 @@ impl CellBox {
         })
     }
 
-    // The box as a rectangle.
-    pub fn rect(&self) -> Rect
-        ensures value { result ≡ record { x = self.now.left; y = self.now.top; w = self.now.right - self.now.left; h = self.now.bottom - self.now.top } }
-        ensures cells { SameCells (holds result) (in_box self.now) }
-    {
-        Rect {
-            x: self.left,
-            y: self.top,
-            w: self.right.saturating_sub(self.left),
-            h: self.bottom.saturating_sub(self.top),
-        }
-    }
-
     // Whether the cell (x, y) is one of the box's.
     pub fn has(&self, x: u16, y: u16) -> bool
         ensures { result ≡ in_box self.now x y }
@@ -58,5 +44,19 @@ impl CellBox {
     {
         self.left.max(other.left) < self.right.min(other.right)
             && self.top.max(other.top) < self.bottom.min(other.bottom)
+    }
+}
+
+// The box as a rectangle.
+impl From<CellBox> for Rect {
+    ghost from_gives = { AsRect };
+
+    fn from(b: CellBox) -> Rect {
+        Rect {
+            x: b.left,
+            y: b.top,
+            w: b.right.saturating_sub(b.left),
+            h: b.bottom.saturating_sub(b.top),
+        }
     }
 }

@@ -1,14 +1,14 @@
 -- A run more in a row.
-use Rattle.std.proofs.Common.{◌≡◌, ℕ, ◌+◌, ◌-◌, ◌<◌, ◌≤◌, Bool, true, false, ◌&&◌, eqb, ltb, List, [], ◌∷◌, ◌++◌, length, get_or, take, set, sym, refl, ap, ◌∙◌, subst, inl, inr, arith}
-use Rattle.std.proofs.lemmas.List.{length-map, length-take-le, take_more, take_more_set}
-use Rattle.std.proofs.lemmas.Bool.Decides.{nat_tests}
-use Rattle.std.proofs.lemmas.Bool.{cases_eq, cases_lt, cond-false, cond-true, eq-eqb, ne_eqb}
+use Rattle.std.proofs.Common.{◌≡◌, Option, Some, None, MatchOption, Bor, ℕ, suc, ◌+◌, ◌-◌, ◌<◌, ◌≤◌, Bool, true, false, eqb, List, [], ◌∷◌, ◌++◌, length, get_or, sym, refl, ap, ◌∙◌, subst, inl, inr, arith}
+use Rattle.std.proofs.lemmas.List.{length-map}
+use Rattle.std.proofs.lemmas.Bool.{both_ways, cases_eq, cond-false, cond-true, eq-eqb, false≢true, ne_eqb}
+use Rattle.std.specs.List.{HoldsAt}
 use Rattle.boxes.specs.declared.cell_box.CellBox.{CellBox}
 use Rattle.boxes.specs.Banded.{Span, span}
-use Rattle.boxes.specs.Regions.{no_box}
 use Rattle.boxes.specs.Strips.{Drawn, limit}
 use Rattle.boxes.proofs.Drawing.{apart_size, drawn_push, drawn_widen, last_run, limit_before, limit_none, limit_push}
-use Rattle.region.specs.Rows.{Fits, add_run, spans}
+use Rattle.region.specs.Listed.{widened_last}
+use Rattle.region.specs.Rows.{Fits, add_run, ends_at, spans}
 
 abbrev pub run : ℕ → ℕ → Span
 run l r = record { left = l; right = r }
@@ -25,83 +25,58 @@ add_pushes l r [] s n = cond-false (eqb s.right l) (run s.left r ∷ []) (s ∷ 
 add_pushes l r (t ∷ []) s n = ap (λ z. t ∷ z) (add_pushes l r [] s n)
 add_pushes l r (t ∷ u ∷ ss) s n = ap (λ z. t ∷ z) (add_pushes l r (u ∷ ss) s n)
 
-spans_append : (ps qs : List CellBox) → spans (ps ++ qs) ≡ spans ps ++ spans qs
-spans_append [] qs = refl
-spans_append (p ∷ ps) qs = ap (λ z. span p ∷ z) (spans_append ps qs)
+-- so in a list of boxes
+pub spans_widened : (l r : ℕ) (bs : List CellBox) → ends_at (spans bs) l ≡ true → spans (widened_last r bs) ≡ add_run l r (spans bs)
+spans_widened l r [] e = absurd (false≢true e)
+spans_widened l r (b ∷ []) e = sym (cond-true (eqb b.right l) (run b.left r ∷ []) (span b ∷ run l r ∷ []) e)
+spans_widened l r (b ∷ c ∷ bs) e = ap (λ z. span b ∷ z) (spans_widened l r (c ∷ bs) e)
 
--- the first n + 1 places
-spans_more : (bs : List CellBox) (n : ℕ) → n < length bs → spans (take (n + 1) bs) ≡ spans (take n bs) ++ span (get_or bs n no_box) ∷ []
-spans_more bs n h = ap spans (take_more bs n no_box h) ∙ spans_append (take n bs) (get_or bs n no_box ∷ [])
+pub spans_pushed :
+    (l r : ℕ) (bs : List CellBox) (b : CellBox) → ends_at (spans bs) l ≡ false → span b ≡ run l r → spans (bs ++ b ∷ []) ≡ add_run l r (spans bs)
+spans_pushed l r [] b e is = ap (λ s. s ∷ []) is
+spans_pushed l r (c ∷ []) b e is = ap (λ s. span c ∷ s ∷ []) is ∙ sym (cond-false (eqb c.right l) (run c.left r ∷ []) (span c ∷ run l r ∷ []) e)
+spans_pushed l r (c ∷ d ∷ bs) b e is = ap (λ z. span c ∷ z) (spans_pushed l r (d ∷ bs) b e is)
 
-spans_set : (bs : List CellBox) (n : ℕ) (b : CellBox) → n < length bs → spans (take (n + 1) (set bs n b)) ≡ spans (take n bs) ++ span b ∷ []
-spans_set bs n b h = ap spans (take_more_set bs n b h) ∙ spans_append (take n bs) (b ∷ [])
+ends_last : (l : ℕ) (ss : List Span) (s : Span) → ends_at (ss ++ s ∷ []) l ≡ eqb s.right l
+ends_last l [] s = refl
+ends_last l (t ∷ []) s = refl
+ends_last l (t ∷ u ∷ ss) s = ends_last l (u ∷ ss) s
 
--- the last run ends at l, or it does not
-abbrev pub last_at : List CellBox → ℕ → ℕ → Bool
-last_at bs n l = ltb 0 n && eqb (get_or bs (n - 1) no_box).right l
-
-last_is : (bs : List CellBox) (n l : ℕ) → last_at bs n l ≡ true → (0 < n) × ((get_or bs (n - 1) no_box).right ≡ l)
-last_is bs n l h = grind (arith, nat_tests)
-
-last_not : (bs : List CellBox) (n l : ℕ) → last_at bs n l ≡ false → 0 < n → (get_or bs (n - 1) no_box).right ≡ l → ⊥
-last_not bs n l h some e = grind (arith, nat_tests)
-
--- the last run in the array is widened
-pub array_widens :
-    (bs : List CellBox) (n l r : ℕ) (b : CellBox) → n ≤ length bs → last_at bs n l ≡ true
-    → span b ≡ run (get_or bs (n - 1) no_box).left r → spans (take n (set bs (n - 1) b)) ≡ add_run l r (spans (take n bs))
-array_widens bs n l r b le at is =
-    let some : 0 < n = (last_is bs n l at).0 in
-    let e : (get_or bs (n - 1) no_box).right ≡ l = (last_is bs n l at).1 in
-    let m : ℕ = n - 1 in
-    let nm : m + 1 ≡ n = omega arith in
-    let lt : m < length bs = omega arith in
-    subst (λ k. spans (take k (set bs m b)) ≡ add_run l r (spans (take k bs))) nm
-    (spans_set bs m b lt
-    ∙ ap (λ s. spans (take m bs) ++ s ∷ []) is
-    ∙ sym (ap (add_run l r) (spans_more bs m lt) ∙ add_widens l r (spans (take m bs)) (span (get_or bs m no_box)) e))
-
-free : (bs : List CellBox) (n l : ℕ) → n ≤ length bs → Fits l (spans (take n bs)) → last_at bs n l ≡ false → limit 0 (spans (take n bs)) ≤ l
-free bs n l le f other =
-    elim (cases_lt 0 n) [
-      | inl some ↦
-          (let m : ℕ = n - 1 in
-          let nm : m + 1 ≡ n = omega arith in
-          let ends : limit 0 (spans (take n bs)) ≡ (get_or bs m no_box).right + 1 =
-          ap (λ k. limit 0 (spans (take k bs))) (sym nm) ∙ ap (limit 0) (spans_more bs m (omega arith)) ∙ limit_push 0 (spans (take m bs)) (span (get_or bs m no_box)) in
-          let no : (get_or bs m no_box).right ≡ l → ⊥ = last_not bs n l other some in
-          elim (cases_eq (get_or bs m no_box).right l) [
-            | inl same ↦ absurd (no same)
+-- where it ends elsewhere, it ends left of l
+free : (l : ℕ) (ss : List Span) → Fits l ss → ends_at ss l ≡ false → limit 0 ss ≤ l
+free l ss f other =
+    elim (last_run ss) [
+      | inl none ↦ subst (λ z. limit 0 z ≤ l) (sym none) (omega arith)
+      | inr last ↦
+          (let ends : limit 0 ss ≡ last.1.right + 1 = ap (limit 0) last.2 ∙ limit_push 0 last.0 last.1 in
+          let off : eqb last.1.right l ≡ false = sym (ends_last l last.0 last.1) ∙ ap (λ z. ends_at z l) (sym last.2) ∙ other in
+          elim (cases_eq last.1.right l) [
+            | inl same ↦ absurd (both_ways (eqb last.1.right l) off (eq-eqb last.1.right l same))
             | inr differ ↦ omega (arith, ends, f.near, differ)
           ])
-      | inr none ↦ (let z : n ≡ 0 = omega arith in subst (λ k. limit 0 (spans (take k bs)) ≤ l) (sym z) (omega arith))
     ]
 
-spans_length : (bs : List CellBox) (n : ℕ) → n ≤ length bs → length (spans (take n bs)) ≡ n
-spans_length bs n le = length-map (take n bs) span ∙ length-take-le n bs le
+-- so there is room for a run more
+pub runs_room : (l : ℕ) (bs : List CellBox) → Fits l (spans bs) → ends_at (spans bs) l ≡ false → length bs < 128
+runs_room l bs f other =
+    omega (arith, free l (spans bs) f other, apart_size 0 (spans bs) f.apart, length-map bs span, f.inside)
 
-pub array_room : (bs : List CellBox) (n l : ℕ) → n ≤ length bs → Fits l (spans (take n bs)) → last_at bs n l ≡ false → n < 128
-array_room bs n l le f other =
-    omega (arith, free bs n l le f other, apart_size 0 (spans (take n bs)) f.apart, spans_length bs n le, f.inside)
+-- the last run ends at the column, where a slice has one
+pub ends_of : (l : ℕ) (bs : List CellBox) (b : CellBox) → 0 < length bs → b ≡ get_or bs (length bs - 1) b → ends_at (spans bs) l ≡ eqb b.right l
+ends_of l [] b some is = absurd (omega arith)
+ends_of l (c ∷ []) b some is = ap (λ z. eqb z.right l) (sym is)
+ends_of l (c ∷ d ∷ bs) b some is =
+    let less : length (c ∷ d ∷ bs) - 1 ≡ suc (length (d ∷ bs) - 1) = omega arith in
+    ends_of l (d ∷ bs) b (omega arith) (is ∙ ap (λ n. get_or (c ∷ d ∷ bs) n b) less)
 
--- a run is added to the array
-pub array_pushes :
-    (bs : List CellBox) (n l r : ℕ) (b : CellBox) → n < length bs → last_at bs n l ≡ false → span b ≡ run l r
-    → spans (take (n + 1) (set bs n b)) ≡ add_run l r (spans (take n bs))
-array_pushes bs n l r b lt other is =
-    spans_set bs n b lt
-    ∙ ap (λ s. spans (take n bs) ++ s ∷ []) is
-    ∙ elim (cases_lt 0 n) [
-      | inl some ↦
-          (let m : ℕ = n - 1 in
-          let nm : m + 1 ≡ n = omega arith in
-          let last = spans_more bs m (omega arith) in
-          subst (λ k. spans (take k bs) ++ run l r ∷ [] ≡ add_run l r (spans (take k bs))) nm
-          (ap (λ z. z ++ run l r ∷ []) last ∙ sym (ap (add_run l r) last ∙ add_pushes l r (spans (take m bs)) (span (get_or bs m no_box)) (last_not bs n l other some))))
-      | inr none ↦
-          (let z : n ≡ 0 = omega arith in
-          subst (λ k. spans (take k bs) ++ run l r ∷ [] ≡ add_run l r (spans (take k bs))) (sym z) refl)
-    ]
+-- what `last` says of that
+pub ends_told :
+    (l : ℕ) (bs : List CellBox) (o : Option (Bor CellBox)) (r : Bool) {Q : Bor CellBox → Type 0}
+    → MatchOption o (length bs ≤ 0) (λ x. (0 < length bs) × HoldsAt (λ y. x.now ≡ y) bs (length bs - 1)) → MatchOption o (r ≡ false) Q
+    → ((x : Bor CellBox) → Q x → r ≡ eqb x.now.right l) → r ≡ ends_at (spans bs) l
+ends_told l [] None r none is told = is
+ends_told l (b ∷ bs) None r none is told = absurd (omega arith)
+ends_told l bs (Some x) r (some, at) is told = told x is ∙ sym (ends_of l bs x.now some (at x.now))
 
 -- the cells from x up to e, added to the runs of the cells left of x
 pub drawn_add :

@@ -1,13 +1,14 @@
 -- The boxes of a band in an array: compared, lowered, added.
-use Rattle.std.proofs.Common.{◌≡◌, ℕ, ◌+◌, ◌-◌, ◌<◌, ◌≤◌, Bool, true, false, ◌&&◌, List, [], ◌∷◌, ◌++◌, map, length, get_or, take, drop, set, sym, refl, ap, ◌∙◌, ap₂, arith}
-use borrow.Rule.Slice.PartMut.{put_mid}
+use Rattle.std.proofs.Common.{◌≡◌, ℕ, ◌+◌, ◌<◌, ◌≤◌, Bool, true, false, ◌&&◌, List, [], ◌∷◌, ◌++◌, map, length, get_or, take, drop, set, sym, refl, ap, ◌∙◌, ap₂, arith}
+use Rattle.std.specs.List.{list_all, zip}
 use Rattle.std.proofs.lemmas.List.Edits.{map_over_more}
-use Rattle.std.proofs.lemmas.List.{append_assoc, append-nil, drop_all, drop_more, get_or_default, length-drop, length-map, length-take-le, take_all, take_more, take_more_set}
-use Rattle.std.proofs.lemmas.Slice.{between_is, take-put_mid}
+use Rattle.std.proofs.lemmas.List.{append_assoc, append-nil, length-append, drop_all, get_or_default, length-map, length-take-le, take_all, take_more}
 use Rattle.boxes.specs.declared.cell_box.CellBox.{CellBox}
+use Rattle.boxes.specs.Banded.{span}
 use Rattle.boxes.specs.Bands.{boxes_of}
+use Rattle.boxes.proofs.Adding.{length_boxes}
 use Rattle.boxes.specs.Regions.{no_box}
-use Rattle.boxes.specs.Strips.{lower_all, lowered, same_runs}
+use Rattle.boxes.specs.Strips.{same_runs}
 use Rattle.region.specs.Rows.{spans}
 use Rattle.region.specs.Works.{same_run}
 
@@ -22,25 +23,12 @@ edges_lengths (p ∷ ps) (q ∷ qs) h = go (same_run p q) (edges_lengths ps qs (
     go true e = e
     go false e = refl
 
-edges-drop :
-    (ps qs : List CellBox) (i : ℕ) → i < length ps → i < length qs
-    → same_runs (spans (drop i ps)) (spans (drop i qs)) ≡ (same_run (get_or ps i no_box) (get_or qs i no_box) && same_runs (spans (drop (i + 1) ps)) (spans (drop (i + 1) qs)))
-edges-drop ps qs i h k = ap₂ (λ p q. same_runs (spans p) (spans q)) (drop_more ps i no_box h) (drop_more qs i no_box k)
-
-pub edges_differ :
-    (ps qs : List CellBox) (i : ℕ) → i < length ps → i < length qs → same_runs (spans ps) (spans qs) ≡ same_runs (spans (drop i ps)) (spans (drop i qs))
-    → same_run (get_or ps i no_box) (get_or qs i no_box) ≡ false → false ≡ same_runs (spans ps) (spans qs)
-edges_differ ps qs i h k e n = sym (e ∙ edges-drop ps qs i h k ∙ ap (λ t. t && same_runs (spans (drop (i + 1) ps)) (spans (drop (i + 1) qs))) n)
-
-pub edges_more :
-    (ps qs : List CellBox) (i : ℕ) → i < length ps → i < length qs → same_runs (spans ps) (spans qs) ≡ same_runs (spans (drop i ps)) (spans (drop i qs))
-    → same_run (get_or ps i no_box) (get_or qs i no_box) ≡ true → same_runs (spans ps) (spans qs) ≡ same_runs (spans (drop (i + 1) ps)) (spans (drop (i + 1) qs))
-edges_more ps qs i h k e n = e ∙ edges-drop ps qs i h k ∙ ap (λ t. t && same_runs (spans (drop (i + 1) ps)) (spans (drop (i + 1) qs))) n
-
-pub edges_all :
-    (ps qs : List CellBox) (i : ℕ) → length ps ≤ i → length qs ≤ i → same_runs (spans ps) (spans qs) ≡ same_runs (spans (drop i ps)) (spans (drop i qs))
-    → true ≡ same_runs (spans ps) (spans qs)
-edges_all ps qs i h k e = sym (e ∙ ap₂ (λ p q. same_runs (spans p) (spans q)) (drop_all i ps h) (drop_all i qs k))
+-- bands as long are compared run by run
+pub edges_zipped : (ps qs : List CellBox) → length ps ≡ length qs → list_all (λ p. same_run p.0 p.1) (zip ps qs) ≡ same_runs (spans ps) (spans qs)
+edges_zipped [] [] h = refl
+edges_zipped [] (q ∷ qs) h = absurd (omega arith)
+edges_zipped (p ∷ ps) [] h = absurd (omega arith)
+edges_zipped (p ∷ ps) (q ∷ qs) h = ap (λ t. same_run p q && t) (edges_zipped ps qs (omega arith))
 
 -- one more box changed in its place
 pub map_more :
@@ -52,16 +40,6 @@ map_more f xs ys i b h k inv is =
 pub map_all : (f : CellBox → CellBox) (xs ys : List CellBox) (i : ℕ) → length xs ≤ i → ys ≡ map f (take i xs) ++ drop i xs → ys ≡ map f xs
 map_all f xs ys i h inv = inv ∙ ap₂ (λ p q. map f p ++ q) (take_all i xs h) (drop_all i xs h) ∙ append-nil (map f xs)
 
--- the part of the array that is lowered
-pub grow_boxes :
-    (xs ys : List CellBox) (a n e : ℕ) → a ≤ n → n ≤ length xs → ys ≡ lower_all e (take (n - a) (drop a xs))
-    → take n (put_mid a (n - a) xs ys) ≡ take a xs ++ lower_all e (drop a (take n xs))
-grow_boxes xs ys a n e h k is =
-    let len : length ys ≡ n - a =
-    ap length is ∙ length-map (take (n - a) (drop a xs)) (lowered e) ∙ length-take-le (n - a) (drop a xs) (omega (arith, length-drop a xs)) in
-    take-put_mid a (n - a) xs ys n (omega arith) (omega arith)
-    ∙ ap (λ l. take a xs ++ l) (is ∙ ap (lower_all e) (between_is xs a n))
-
 -- one more box of a band
 abbrev pub placed : ℕ → ℕ → CellBox → CellBox
 placed t e run = record { left = run.left; top = t; right = run.right; bottom = e }
@@ -71,16 +49,21 @@ boxes_push t e [] r = refl
 boxes_push t e (q ∷ runs) r = ap (λ l. placed t e q ∷ l) (boxes_push t e runs r)
 
 pub push_more :
-    (p xs : List CellBox) (n i t e : ℕ) (runs : List CellBox) → n < length xs → i < length runs → take n xs ≡ p ++ boxes_of t e (spans (take i runs))
-    → take (n + 1) (set xs n (placed t e (get_or runs i no_box))) ≡ p ++ boxes_of t e (spans (take (i + 1) runs))
-push_more p xs n i t e runs h k inv =
+    (p xs : List CellBox) (i t e : ℕ) (runs : List CellBox) → i < length runs → xs ≡ p ++ boxes_of t e (spans (take i runs))
+    → xs ++ placed t e (get_or runs i no_box) ∷ [] ≡ p ++ boxes_of t e (spans (take (i + 1) runs))
+push_more p xs i t e runs k inv =
     let r : CellBox = get_or runs i no_box in
-    take_more_set xs n (placed t e r) h
-    ∙ ap (λ l. l ++ placed t e r ∷ []) inv
+    ap (λ l. l ++ placed t e r ∷ []) inv
     ∙ append_assoc p (boxes_of t e (spans (take i runs))) (placed t e r ∷ [])
     ∙ ap (λ l. p ++ l) (sym (ap (λ l. boxes_of t e (spans l)) (take_more runs i no_box k) ∙ boxes_push t e (take i runs) r))
 
 pub push_all :
-    (p xs : List CellBox) (n i t e : ℕ) (runs : List CellBox) → length runs ≤ i → take n xs ≡ p ++ boxes_of t e (spans (take i runs))
-    → take n xs ≡ p ++ boxes_of t e (spans runs)
-push_all p xs n i t e runs h inv = inv ∙ ap (λ l. p ++ boxes_of t e (spans l)) (take_all i runs h)
+    (p xs : List CellBox) (i t e : ℕ) (runs : List CellBox) → length runs ≤ i → xs ≡ p ++ boxes_of t e (spans (take i runs)) → xs ≡ p ++ boxes_of t e (spans runs)
+push_all p xs i t e runs h inv = inv ∙ ap (λ l. p ++ boxes_of t e (spans l)) (take_all i runs h)
+
+-- so long are some boxes of a band behind others
+pub push_length : (p xs : List CellBox) (i t e : ℕ) (runs : List CellBox) → i ≤ length runs → xs ≡ p ++ boxes_of t e (spans (take i runs)) → length xs ≡ length p + i
+push_length p xs i t e runs h inv =
+    ap length inv
+    ∙ length-append p (boxes_of t e (spans (take i runs)))
+    ∙ ap (λ n. length p + n) (length_boxes t e (spans (take i runs)) ∙ length-map (take i runs) span ∙ length-take-le i runs h)

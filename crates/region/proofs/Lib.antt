@@ -1,3 +1,4 @@
+mod Widening
 mod Strips
 mod Adding
 mod Runs

@@ -1,5 +1,5 @@
 -- What is drawn in the end is the region of the cells that the operation keeps.
-use Rattle.std.proofs.Common.{◌≡◌, ℕ, ◌<◌, ◌≤◌, Bool, true, false, ◌&&◌, ◌||◌, leb, List, [], ◌∷◌, length, take, sym, refl, ap, ◌∙◌, subst, ap₂, arith, length-take}
+use Rattle.std.proofs.Common.{◌≡◌, MatchOption, Option, Some, None, ℕ, ◌<◌, ◌≤◌, Bool, true, false, ◌&&◌, ◌||◌, leb, List, [], ◌∷◌, length, sym, refl, ap, ◌∙◌, subst, ap₂, arith, length-take}
 use Rattle.std.proofs.lemmas.Bool.{cond-false, cond-true}
 use Rattle.std.proofs.lemmas.Bool.Decides.{nat_tests}
 use Rattle.screen.specs.declared.rect.Rect.{Rect}
@@ -10,16 +10,23 @@ use Rattle.boxes.specs.Cells.{SameCells, either, has, in_box, none, of_rect, on_
 use Rattle.boxes.specs.Regions.{RegionOf, box_at, covering, limited}
 use Rattle.boxes.specs.Strips.{outline}
 use Rattle.boxes.proofs.Adding.{and_true, painted_cells, stack_seen, seen_largest}
-use Rattle.boxes.proofs.Covering.{covering_proper}
 use Rattle.boxes.proofs.One.{worked}
 use Rattle.boxes.proofs.Outlines.{outline_covering}
 use Rattle.boxes.proofs.Rules.{box_banded, from_bands, to_bands}
 use Rattle.boxes.proofs.Unique.{or_false}
 use Rattle.region.specs.declared.operation.Operation.{Operation}
 use Rattle.region.specs.declared.operation.Operation.TheVariants.{Join, Cut, Away}
+use Rattle.region.specs.declared.drawn.Drawn.{Drawn}
+use Rattle.region.specs.declared.few.Few.{Few}
 use Rattle.region.specs.declared.work.Work.{Work}
+use Rattle.region.specs.Listed.{listed}
 use Rattle.region.specs.Sets.{keeps, kept}
 use Rattle.region.specs.Sweeps.{Painting}
+use Rattle.region.specs.Works.{Stands}
+
+-- no more boxes are there than there is room for
+pub at_most : {n : ℕ} (few : Few n) → length (listed few) ≤ n
+at_most few = omega (arith, few.fits, length-take few.count few.boxes)
 
 pub limited_few : (bs : List CellBox) → length bs ≤ 32 → limited bs ≡ bs
 limited_few bs h = cond-true (leb (length bs) 32) bs (covering bs ∷ []) (grind (arith, nat_tests))
@@ -63,41 +70,46 @@ module _ (op : Operation) (ps qs : List CellBox) (p : Banded ps) (q : Banded qs)
       painted_cells (kept op ps qs) d.bands d.painted x y
       ∙ keeps_largest op (has ps x y) (has qs x y) (on_largest x y) (largest_is_on ps x y p) (largest_is_on qs x y q)
 
-  -- at most 32 boxes
-  pub few_banded : w.over ≡ false → Banded (take w.count w.boxes)
-  few_banded f = subst Banded (sym (d.holds.boxes f)) exact_banded
+  drawn_is : (b : Drawn) → w.drawn ≡ Some b → Stands d.bands b
+  drawn_is b is = subst (λ o. MatchOption o (32 < length (flat d.bands)) (Stands d.bands)) is d.holds
 
-  pub few_region : w.over ≡ false → length w.boxes ≡ 32 → RegionOf (kept op ps qs) (take w.count w.boxes)
-  few_region f len =
+  few_region : (b : Drawn) → w.drawn ≡ Some b → RegionOf (kept op ps qs) (listed b.boxes)
+  few_region b is =
+      let s : Stands d.bands b = drawn_is b is in
       record {
         exact = flat d.bands;
         banded = exact_banded;
         same = exact_cells;
-        boxes = d.holds.boxes f ∙ sym (limited_few (flat d.bands) (few f len));
+        boxes = s.boxes ∙ sym (limited_few (flat d.bands) (omega (arith, ap length s.boxes, at_most b.boxes)));
       }
-    where
-      few : w.over ≡ false → length w.boxes ≡ 32 → length (flat d.bands) ≤ 32
-      few f len = omega (arith, ap length (d.holds.boxes f), length-take w.count w.boxes, d.holds.count)
 
   -- more
-  hull_covers : w.over ≡ true → (w.hull ≡ covering (flat d.bands)) × Proper (covering (flat d.bands))
-  hull_covers o = go (flat d.bands) (d.holds.over o) exact_banded d.hull
+  many : w.drawn ≡ None → 32 < length (flat d.bands)
+  many over = subst (λ o. MatchOption o (32 < length (flat d.bands)) (Stands d.bands)) over d.holds
+
+  hull_covers : w.drawn ≡ None → w.hull ≡ covering (flat d.bands)
+  hull_covers over = go (flat d.bands) (many over) exact_banded d.hull
     where
-      go : (bs : List CellBox) → 32 < length bs → Banded bs → w.hull ≡ outline bs → (w.hull ≡ covering bs) × Proper (covering bs)
+      go : (bs : List CellBox) → 32 < length bs → Banded bs → w.hull ≡ outline bs → w.hull ≡ covering bs
       go [] h b e = absurd (omega arith)
-      go (b ∷ bs) h k e = (e ∙ outline_covering b bs k.proper, covering_proper b bs k)
+      go (b ∷ bs) h k e = e ∙ outline_covering b bs k.proper
 
-  pub many_proper : w.over ≡ true → Proper w.hull
-  many_proper o = let h = hull_covers o in subst Proper (sym h.0) h.1
-
-  pub many_region : w.over ≡ true → (rs : List CellBox) → rs ≡ w.hull ∷ [] → RegionOf (kept op ps qs) rs
-  many_region o rs e =
+  many_region : w.drawn ≡ None → (rs : List CellBox) → rs ≡ w.hull ∷ [] → RegionOf (kept op ps qs) rs
+  many_region over rs e =
       record {
         exact = flat d.bands;
         banded = exact_banded;
         same = exact_cells;
-        boxes = e ∙ ap (λ b. b ∷ []) (hull_covers o).0 ∙ sym (limited_many (flat d.bands) (d.holds.over o));
+        boxes = e ∙ ap (λ b. b ∷ []) (hull_covers over) ∙ sym (limited_many (flat d.bands) (many over));
       }
+
+  -- so the work's boxes are the region's
+  pub work_region : (few : Few 32) → MatchOption w.drawn (listed few ≡ w.hull ∷ []) (λ b. few ≡ b.boxes) → RegionOf (kept op ps qs) (listed few)
+  work_region few is = go w.drawn refl is
+    where
+      go : (o : Option Drawn) → w.drawn ≡ o → MatchOption o (listed few ≡ w.hull ∷ []) (λ b. few ≡ b.boxes) → RegionOf (kept op ps qs) (listed few)
+      go None over e = many_region over (listed few) e
+      go (Some b) drawn e = subst (λ f. RegionOf (kept op ps qs) (listed f)) (sym e) (few_region b drawn)
 
 -- the region of a box, and the empty one
 pub none_banded : Banded []

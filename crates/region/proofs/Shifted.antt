@@ -1,7 +1,5 @@
 -- A region cut to the cells that stay, and moved, is shifted.
-use Rattle.std.proofs.Common.{◌≡◌, ℕ, ◌-◌, ◌≤◌, Bool, false, ◌&&◌, ltb, List, [], ◌∷◌, ◌++◌, map, length, take, sym, refl, ap, ◌∙◌, subst, ap₂, inl, inr, arith}
-use native.Mathlib.Nat.{sub-zero}
-use Rattle.std.proofs.lemmas.List.{length-map, length-take-le, take_at}
+use Rattle.std.proofs.Common.{◌≡◌, ℕ, ◌≤◌, Bool, false, ◌&&◌, ltb, List, [], ◌∷◌, map, length, sym, refl, ◌∙◌, subst, ap₂, inl, inr, arith}
 use Rattle.std.proofs.lemmas.Bool.{cases_Bool, cond-false, cond-true}
 use Rattle.std.proofs.lemmas.Bool.Decides.{nat_tests}
 use Rattle.std.specs.List.{AllByRecursion}
@@ -41,14 +39,6 @@ module _ (fx fy tx ty : ℕ) where
   all_onto [] p s = refl
   all_onto (b ∷ bs) p s = ap₂ ◌∷◌ (one_onto b p.0 s.0) (all_onto bs p.1 s.1)
 
-  -- the first n places of the array, moved
-  moved_part :
-      (xs ys rest : List CellBox) (n : ℕ) → n ≤ length xs → ys ≡ map (move_onto fx fy tx ty) (take (n - 0) xs) → take n (ys ++ rest) ≡ map (move_onto fx fy tx ty) (take n xs)
-  moved_part xs ys rest n le is =
-      let all : ys ≡ map (move_onto fx fy tx ty) (take n xs) = is ∙ ap (λ k. map (move_onto fx fy tx ty) (take k xs)) (sub-zero n) in
-      let long : length ys ≡ n = ap length all ∙ length-map (take n xs) (move_onto fx fy tx ty) ∙ length-take-le n xs le in
-      take_at ys rest n long ∙ all
-
   -- the whole shift
   pub record Moved (bs rs : List CellBox) : Type 0 where
     pub region : RegionOf (shifted fx fy tx ty bs) rs
@@ -56,12 +46,11 @@ module _ (fx fy tx ty : ℕ) where
     pub banded : Banded rs
 
   pub shift_moves :
-      (bs ks xs ys rest : List CellBox) (n : ℕ) → Banded bs → length bs ≤ 32 → Kept (staying fx fy tx ty) ks → RegionOf (both bs ks) (take n xs) → n ≤ length xs
-      → ys ≡ map (move_onto fx fy tx ty) (take (n - 0) xs) → Moved bs (take n (ys ++ rest))
-  shift_moves bs ks xs ys rest n b few kept r le is =
-      let s = cut_shift bs ks (take n xs) b few kept r in
-      let same : map (move_box fx fy tx ty) (take n xs) ≡ take n (ys ++ rest) =
-      sym (moved_part xs ys rest n le is ∙ all_onto (take n xs) (region_banded (both bs ks) (take n xs) r).proper s.stays) in
+      (bs ks cs rs : List CellBox) → Banded bs → length bs ≤ 32 → Kept (staying fx fy tx ty) ks → RegionOf (both bs ks) cs → rs ≡ map (move_onto fx fy tx ty) cs
+      → Moved bs rs
+  shift_moves bs ks cs rs b few kept r is =
+      let s = cut_shift bs ks cs b few kept r in
+      let same : map (move_box fx fy tx ty) cs ≡ rs = sym (is ∙ all_onto cs (region_banded (both bs ks) cs r).proper s.stays) in
       record {
         region = subst (RegionOf (shifted fx fy tx ty bs)) same s.region;
         exact = subst (λ l. SameCells (has l) (shifted fx fy tx ty bs)) same s.same;

@@ -1,6 +1,5 @@
 -- Strips of rows, drawn one below the other.
-use Rattle.std.proofs.Common.{◌≡◌, ℕ, ◌<◌, ◌≤◌, Bool, false, List, [], take, sym, ap, ◌∙◌, ap₂, arith}
-use Rattle.std.proofs.lemmas.Bool.{both_ways}
+use Rattle.std.proofs.Common.{◌≡◌, ℕ, ◌<◌, ◌≤◌, Bool, List, [], sym, ap, ◌∙◌, ap₂}
 use Rattle.boxes.specs.declared.cell_box.CellBox.{CellBox}
 use Rattle.boxes.specs.Banded.{Span}
 use Rattle.boxes.specs.Bands.{in_spans}
@@ -13,22 +12,12 @@ use Rattle.region.specs.Places.{shown_boxes, turn_of}
 use Rattle.region.specs.Rows.{spans}
 use Rattle.region.specs.Sets.{keeps, kept}
 use Rattle.region.specs.Sweeps.{Painting, Strip}
+use Rattle.region.specs.Works.{Holds}
 use Rattle.region.proofs.Strips.{At, at_row}
 
 -- nothing is drawn at first
-pub painting_none : (c : ℕ → ℕ → Bool) (w : Work) → w.count ≡ 0 → w.start ≡ 0 → w.over ≡ false → w.hull ≡ outline [] → Painting c 0 w
-painting_none c w n s o h =
-    record {
-      bands = [];
-      holds = record {
-        count = omega arith;
-        boxes = λ _. ap (λ k. take k w.boxes) n;
-        start = λ _. s;
-        over = λ on. absurd (both_ways w.over o on);
-      };
-      painted = painted_none c;
-      hull = h;
-    }
+pub painting_none : (c : ℕ → ℕ → Bool) (w : Work) → Holds w [] → w.hull ≡ outline [] → Painting c 0 w
+painting_none c w h hull = record { bands = []; holds = h; painted = painted_none c; hull = hull }
 
 -- the strip from t to e, where the lists have the runs ps and qs
 pub painting_add :

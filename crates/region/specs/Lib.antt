@@ -1,5 +1,6 @@
 pub mod Held
 pub mod Leads
+pub mod Listed
 pub mod Places
 pub mod Rows
 pub mod Sets

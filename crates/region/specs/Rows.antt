@@ -1,10 +1,10 @@
 -- The runs of a row.
-use Rattle.std.specs.Prelude.{◌≡◌, ℕ, ◌+◌, ◌-◌, ◌<◌, ◌≤◌, Bool, false, cond, ◌&&◌, List, [], ◌∷◌, map, take, ◌==◌, nat_le, nat_lt, slice_index_or}
+use Rattle.std.specs.Prelude.{◌≡◌, ℕ, ◌+◌, ◌<◌, ◌≤◌, Bool, false, cond, List, [], ◌∷◌, map, ◌==◌, nat_le, nat_lt}
 use Rattle.boxes.specs.declared.cell_box.CellBox.{CellBox}
 use Rattle.boxes.specs.Banded.{Span, span}
 use Rattle.boxes.specs.Bands.{Apart, in_spans}
-use Rattle.boxes.specs.Regions.{no_box}
 use Rattle.boxes.specs.Strips.{limit}
+use Rattle.region.specs.Listed.{listed}
 use Rattle.region.specs.Sets.{keeps}
 use Rattle.region.specs.declared.operation.Operation.{Operation}
 use Rattle.region.specs.declared.row.Row.{Row}
@@ -14,11 +14,13 @@ abbrev pub spans : List CellBox → List Span
 spans bs = map span bs
 
 abbrev pub runs_of : Row → List Span
-runs_of row = spans (take row.count row.runs)
+runs_of row = spans (listed row.runs)
 
 -- the last run ends at column x
-abbrev pub ends_at : Row → ℕ → Bool
-ends_at row x = nat_lt 0 row.count && (slice_index_or row.runs (row.count - 1) no_box).right == x
+abbrev pub ends_at : List Span → ℕ → Bool
+ends_at [] x = false
+ends_at (s ∷ []) x = s.right == x
+ends_at (s ∷ t ∷ ss) x = ends_at (t ∷ ss) x
 
 -- one run more at the end, or the last one widened where it ends at l
 abbrev pub add_run : ℕ → ℕ → List Span → List Span

@@ -1,45 +1,37 @@
 -- The result of an operation, as far as it is drawn.
-use Rattle.std.specs.Prelude.{◌≡◌, ℕ, ◌+◌, ◌<◌, ◌≤◌, Bool, true, false, ◌&&◌, List, [], ◌∷◌, ◌++◌, length, take, drop, ◌==◌}
+use Rattle.std.specs.Prelude.{◌≡◌, ℕ, ◌<◌, Bool, false, ◌&&◌, List, [], ◌∷◌, ◌++◌, length, take, drop, ◌==◌, MatchOption}
 use Rattle.boxes.specs.declared.cell_box.CellBox.{CellBox}
 use Rattle.boxes.specs.Banded.{Span}
 use Rattle.boxes.specs.Bands.{Band, Stack, boxes_of, flat}
 use Rattle.boxes.specs.Strips.{add_band, lower_all, same_runs}
 use Rattle.region.specs.Rows.{spans}
+use Rattle.region.specs.Listed.{listed}
+use Rattle.region.specs.declared.drawn.Drawn.{Drawn}
 use Rattle.region.specs.declared.work.Work.{Work}
-
--- the indices stand in order
-abbrev pub Sound : Work → Type 0
-Sound w = (w.count ≤ 32) × (w.start ≤ w.count)
 
 -- how many boxes stand above the lowest band
 abbrev pub start_of : List Band → ℕ
 start_of [] = 0
 start_of (b ∷ bs) = length (flat bs)
 
+-- the boxes that are drawn are those of the bands
+pub record Stands (bs : List Band) (d : Drawn) : Type 0 where
+  pub boxes : listed d.boxes ≡ flat bs
+  pub start : d.start ≡ start_of bs
+
 -- what is drawn is the boxes of the bands, or these are more than 32
-pub record Holds (w : Work) (bs : List Band) : Type 0 where
-  pub count : w.count ≤ 32
-  pub boxes : w.over ≡ false → take w.count w.boxes ≡ flat bs
-  pub start : w.over ≡ false → w.start ≡ start_of bs
-  pub over : w.over ≡ true → 32 < length (flat bs)
+abbrev pub Holds : Work → List Band → Type 0
+Holds w bs = MatchOption w.drawn (32 < length (flat bs)) (Stands bs)
 
--- w' is w with the last band drawn on to row e
-pub record Grown (e : ℕ) (w w' : Work) : Type 0 where
-  pub count : w'.count ≡ w.count
-  pub start : w'.start ≡ w.start
-  pub over : w'.over ≡ w.over
-  pub hull : w'.hull ≡ w.hull
-  pub boxes : take w.count w'.boxes ≡ take w.start w.boxes ++ lower_all e (drop w.start (take w.count w.boxes))
+-- d' is d with the last band drawn on to row e
+pub record Grown (e : ℕ) (d d' : Drawn) : Type 0 where
+  pub start : d'.start ≡ d.start
+  pub boxes : listed d'.boxes ≡ take d.start (listed d.boxes) ++ lower_all e (drop d.start (listed d.boxes))
 
--- w' is w with a band more, where there is room
-pub record Pushed (t e : ℕ) (row : List Span) (w w' : Work) : Type 0 where
-  pub count : w'.count ≤ 32
-  pub order : w'.start ≤ w'.count
-  pub hull : w'.hull ≡ w.hull
-  pub full : 32 < w.count + length row → w'.over ≡ true
-  pub over : w.count + length row ≤ 32 → w'.over ≡ w.over
-  pub start : w.count + length row ≤ 32 → w'.start ≡ w.count
-  pub boxes : w.count + length row ≤ 32 → take w'.count w'.boxes ≡ take w.count w.boxes ++ boxes_of t e row
+-- d' is d with a band more
+pub record Pushed (t e : ℕ) (row : List Span) (d d' : Drawn) : Type 0 where
+  pub start : d'.start ≡ length (listed d.boxes)
+  pub boxes : listed d'.boxes ≡ listed d.boxes ++ boxes_of t e row
 
 -- two boxes have the same left and right edges
 abbrev pub same_run : CellBox → CellBox → Bool

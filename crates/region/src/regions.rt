@@ -1,18 +1,15 @@
 // A set of cells of the largest screen, which has 256 × 256 cells.
 ghost use Rattle.boxes.specs.Banded.{Banded};
-ghost use Rattle.std.specs.Prelude.{◌≤◌, take};
+ghost use Rattle.region.specs.Listed.{listed};
 
 mod methods;
 
-use boxes::CellBox;
+use crate::few::Few;
 pub use methods::two_squares;
 
-// The first `count` of `boxes`, in banded form. A set whose banded form has more than 32 boxes is kept
-// as its covering box.
+// Its boxes, in banded form. A set whose banded form has more than 32 boxes is kept as its covering box.
 #[derive(Clone, Copy)]
 pub struct Region {
-    boxes: [CellBox; 32],
-    count: usize,
-    ghost few: { count ≤ 32 },
-    ghost banded: { ∥ Banded (take count boxes) ∥₁ },
+    boxes: Few<32>,
+    ghost banded: { ∥ Banded (listed boxes) ∥₁ },
 }

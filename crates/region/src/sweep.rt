@@ -6,7 +6,6 @@ ghost use Rattle.boxes.specs.Bands.{Apart};
 ghost use Rattle.region.specs.Rows.{spans};
 ghost use Rattle.region.specs.Sets.{kept};
 ghost use Rattle.region.specs.Sweeps.{Painting, Strip};
-ghost use Rattle.region.specs.Works.{Sound};
 
 use crate::operation::Operation;
 use crate::place::Place;
@@ -26,24 +25,20 @@ fn strip(
 )
     requires first { Apart 0 (spans first.now) }
     requires second { Apart 0 (spans second.now) }
-    requires work { Sound work.old }
-    ensures sound { Sound work.new }
-    ensures drawn { Strip operation top bottom (spans first.now) (spans second.now) work.old work.new }
+    ensures { Strip operation top bottom (spans first.now) (spans second.now) work.old work.new }
 {
-    if second.len() == 0 {
+    if second.is_empty() {
         if operation.keep(true, false) {
             work.add(top, bottom, first);
         }
-        return;
-    }
-    if first.len() == 0 {
+    } else if first.is_empty() {
         if operation.keep(false, true) {
             work.add(top, bottom, second);
         }
-        return;
+    } else {
+        row.merge(operation, first, second);
+        work.add(top, bottom, row.runs.as_slice());
     }
-    row.merge(operation, first, second);
-    work.add(top, bottom, &row.runs[0..row.count]);
 }
 
 // Draws what the operation keeps of two lists.

@@ -6,13 +6,15 @@ ghost use Rattle.boxes.specs.Moves.{staying};
 ghost use Rattle.boxes.specs.Regions.{RegionOf, Worked, box_at};
 ghost use Rattle.region.specs.Held.{held};
 ghost use Rattle.region.specs.Sets.{kept};
-ghost use Rattle.region.specs.Shifts.{Kept, move_onto};
+ghost use Rattle.region.specs.Shifts.{Kept};
 ghost use Rattle.screen.specs.Rects.{holds, on_screen};
-ghost use Rattle.std.specs.Prelude.{◌≡◌, ℕ, ◌+◌, ◌-◌, ◌≤◌, min, true, false, ◌&&◌, [], ◌∷◌, map, length, Decides};
+ghost use Rattle.std.specs.Prelude.{◌≡◌, ℕ, ◌≤◌, true, false, ◌&&◌, [], ◌∷◌, length, Any, Decides};
 
 use super::Region;
+use crate::few::Few;
 use crate::operation::Operation;
 use crate::sweep::sweep;
+use crate::way::Way;
 use boxes::CellBox;
 use screen::{Corner, Rect, Sides};
 
@@ -21,88 +23,25 @@ fn single(b: CellBox) -> Region
     requires { Proper b }
     ensures { held result ≡ b ∷ [] }
 {
-    let boxes = [b; 32];
-    Region { boxes, count: 1 }
+    Region { boxes: Few::one(b) }
 }
 
 // Whether one of the boxes has a cell in common with another box.
 fn any_meets(boxes: &[CellBox], other: &CellBox) -> bool
-    ensures { Decides result ((x y : ℕ) × (has boxes.now x y && in_box other.now x y) ≡ true) }
+    ensures { Decides result (Any (λ b. (x y : ℕ) × (in_box b x y && in_box other.now x y) ≡ true) boxes.now) }
 {
-    for b in boxes {
-        if b.meets(other) {
-            return true;
-        }
-    }
-    false
+    boxes.iter().any(|b| b.meets(other))
 }
 
-fn same_box(a: &CellBox, b: &CellBox) -> bool
-    ensures { Decides result (a.now ≡ b.now) }
+// The cells that stay on the largest screen when they are moved.
+fn staying_cells(way: Way) -> Region
+    ensures { Kept (staying way.from.x way.from.y way.to.x way.to.y) (held result) }
 {
-    a.left == b.left && a.top == b.top && a.right == b.right && a.bottom == b.bottom
-}
-
-fn same_boxes(first: &[CellBox], second: &[CellBox]) -> bool
-    ensures { Decides result (first.now ≡ second.now) }
-{
-    if first.len() != second.len() {
-        return false;
-    }
-    for i in 0..first.len() {
-        if !same_box(&first[i], &second[i]) {
-            return false;
-        }
-    }
-    true
-}
-
-// The box of the cells that stay on the largest screen when they are moved from one corner to another.
-fn staying_box(from: Corner, to: Corner) -> CellBox
-    ensures { result ≡ staying from.x from.y to.x to.y }
-{
-    CellBox {
-        left: from.x.saturating_sub(to.x),
-        top: from.y.saturating_sub(to.y),
-        right: 256u16.saturating_sub(to.x.saturating_sub(from.x)),
-        bottom: 256u16.saturating_sub(to.y.saturating_sub(from.y)),
-    }
-}
-
-// Those cells as a region.
-fn staying_cells(from: Corner, to: Corner) -> Region
-    ensures { Kept (staying from.x from.y to.x to.y) (held result) }
-{
-    let b = staying_box(from, to);
+    let b = way.staying();
     if b.left < b.right && b.top < b.bottom {
-        return single(b);
-    }
-    Region::empty()
-}
-
-// Where a column or a row comes to, on the largest screen.
-fn moved(n: u16, from: u16, to: u16) -> u16
-    ensures { result ≡ min 256 (n + to - from) }
-{
-    let sum = u32::from(n) + u32::from(to);
-    sum.saturating_sub(u32::from(from)).min(256) as u16
-}
-
-// Moves a box that is lent.
-fn move_box(b: &mut CellBox, from: Corner, to: Corner)
-    ensures { b.new ≡ move_onto from.x from.y to.x to.y b.old }
-{
-    b.left = moved(b.left, from.x, to.x);
-    b.top = moved(b.top, from.y, to.y);
-    b.right = moved(b.right, from.x, to.x);
-    b.bottom = moved(b.bottom, from.y, to.y);
-}
-
-fn move_all(boxes: &mut [CellBox], from: Corner, to: Corner)
-    ensures { boxes.new ≡ map (move_onto from.x from.y to.x to.y) boxes.old }
-{
-    for b in boxes.iter_mut() {
-        move_box(b, from, to);
+        single(b)
+    } else {
+        Region::empty()
     }
 }
 
@@ -112,13 +51,7 @@ impl Region {
         ensures boxes { held result ≡ [] }
         ensures cells { SameCells (has (held result)) none }
     {
-        let boxes = [CellBox {
-            left: 0,
-            top: 0,
-            right: 0,
-            bottom: 0,
-        }; 32];
-        Region { boxes, count: 0 }
+        Region { boxes: Few::new() }
     }
 
     // The boxes, in order.
@@ -128,8 +61,7 @@ impl Region {
         ensures few { length result.now ≤ 32 }
         ensures laws { Laws }
     {
-        let count = self.count;
-        &self.boxes[0..count]
+        self.boxes.as_slice()
     }
 
     // The cells of a rectangle that are on the largest screen.
@@ -148,13 +80,8 @@ impl Region {
         ensures { RegionOf (kept operation (held self.now) (held other.now)) (held result) }
     {
         let work = sweep(operation, self.boxes(), other.boxes());
-        if work.over {
-            return single(work.hull);
-        }
-        let boxes = work.boxes;
         Region {
-            boxes,
-            count: work.count,
+            boxes: work.boxes(),
         }
     }
 
@@ -193,17 +120,16 @@ impl Region {
         ensures region { RegionOf (shifted from.x from.y to.x to.y (held self.now)) (held result) }
         ensures exact { SameCells (has (held result)) (shifted from.x from.y to.x to.y (held self.now)) }
     {
-        let part = self.cut(&staying_cells(from, to));
-        let count = part.count;
-        let mut boxes = part.boxes;
-        move_all(&mut boxes[0..count], from, to);
-        Region { boxes, count }
+        let way = Way { from, to };
+        let mut part = self.cut(&staying_cells(way));
+        part.boxes.shift(way);
+        part
     }
 
     pub fn is_empty(&self) -> bool
         ensures { Decides result (SameCells (has (held self.now)) none) }
     {
-        self.boxes().len() == 0
+        self.boxes().is_empty()
     }
 
     // Whether a cell of the region is one of the rectangle's.
@@ -221,7 +147,7 @@ impl Region {
         ensures cells { Decides result (SameCells (has (held self.now)) (has (held other.now))) }
         ensures form { OneForm }
     {
-        same_boxes(self.boxes(), other.boxes())
+        self.boxes() == other.boxes()
     }
 }
 

@@ -9,10 +9,9 @@ loop-y-init c =
     let w = c.new-work.ensures in
     record {
       y = omega arith;
-      sound = (omega arith, omega arith);
       first = rw c.new-p.ensures (at_start _ c.requires.0);
       second = rw c.new-q.ensures (at_start _ c.requires.1);
-      drawn = painting_none _ c.new-work.result w.0 w.1 w.2 w.3;
+      drawn = painting_none _ c.new-work.result w.0 w.1;
     }
 
 pub strip-requires-clause-first : goal.strip-requires-clause-first
@@ -32,9 +31,8 @@ loop-y-preserved c =
     let below : l.y < e = omega (arith, c.min-next.ensures, c.turn.ensures, c.turn-in-loop-y.ensures) in
     record {
       y = omega arith;
-      sound = c.strip.ensures.sound;
       first = rw c.past-p.ensures (at_past _ _ _ e l.invariant.first (omega arith) first);
       second = rw c.past-q.ensures (at_past _ _ _ e l.invariant.second (omega arith) second);
-      drawn = painting_add _ _ _ _ e _ _ _ _ l.invariant.drawn (rw (c.shown.ensures, c.shown-in-loop-y.ensures) at c.strip.ensures.drawn) below (omega arith)
+      drawn = painting_add _ _ _ _ e _ _ _ _ l.invariant.drawn (rw (c.shown.ensures, c.shown-in-loop-y.ensures) at c.strip.ensures) below (omega arith)
           (λ x v lo hi. rows_kept _ _ _ _ _ l.y e x v l.invariant.first l.invariant.second first second lo hi);
     }

@@ -2,7 +2,6 @@ use Rattle.std.proofs.Common.{◌-◌, ◌≤◌}
 use Rattle.region.specs.Places.{remaining}
 use Rattle.region.specs.Sets.{kept}
 use Rattle.region.specs.Sweeps.{Painting}
-use Rattle.region.specs.Works.{Sound}
 use Rattle.region.proofs.Strips.{At}
 use Rattle.region.proofs.sweep.sweep.Given as goal
 
@@ -10,7 +9,6 @@ abbrev pub invariant-loop-y : goal.invariant-loop-y
 invariant-loop-y l =
     record {
       y : l.y ≤ 256;
-      sound : Sound l.work;
       first : At l.first (remaining l.p) l.y;
       second : At l.second (remaining l.q) l.y;
       drawn : Painting (kept l.operation l.first l.second) l.y l.work;

@@ -1,18 +1,17 @@
-use Rattle.std.proofs.Common.{length, take, sym, ap, subst, arith, length-take}
-use native.Mathlib.Nat.{sub-zero}
+use Rattle.std.proofs.Common.{length, sym, ap, subst, arith}
 use Rattle.boxes.specs.Banded.{Banded}
 use Rattle.boxes.proofs.Laws.{laws}
 use Rattle.boxes.proofs.Rules.{given}
 use Rattle.region.specs.Held.{held}
+use Rattle.region.proofs.Results.{at_most}
 use Rattle.region.proofs.regions.Region.boxes.Goals as goal
 
 pub returns : goal.returns
 returns c =
     let r = c.args.self.now in
-    let whole = ap (λ n. take n r.boxes) (sub-zero r.count) in
     record {
-      boxes = whole;
-      banded = subst Banded (sym whole) (given (held r) r.banded);
-      few = omega (arith, r.few, length-take r.count r.boxes, ap length whole);
+      boxes = c.as_slice.ensures;
+      banded = subst Banded (sym c.as_slice.ensures) (given (held r) r.banded);
+      few = omega (arith, ap length c.as_slice.ensures, at_most r.boxes);
       laws = laws;
     }

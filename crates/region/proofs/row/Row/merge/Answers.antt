@@ -10,10 +10,9 @@ loop-first-init c =
     let second : c.min-x.result ≤ start_of c.args.second.now = omega (arith, c.min-x.ensures, c.start-2.ensures) in
     record {
       x = omega (arith, start_inside c.args.first.now c.requires.0);
-      count = omega arith;
       first = along_start c.args.first.now _ c.requires.0 first;
       second = along_start c.args.second.now _ c.requires.1 second;
-      drawn = drawn_start c.args.operation c.args.first.now c.args.second.now _ c.requires.0 c.requires.1 first second;
+      drawn = rw c.clear.ensures (drawn_start c.args.operation c.args.first.now c.args.second.now _ c.requires.0 c.requires.1 first second);
     }
 
 pub loop-first-preserved : goal.loop-first-preserved
@@ -28,14 +27,13 @@ loop-first-preserved c =
     let past : l.x < n = omega (arith, c.min-next.ensures, c.edge.ensures, c.edge-in-loop-first.ensures) in
     record {
       x = omega arith;
-      count = c.draw.ensures.count;
       first = rw c.past-first.ensures (along_past _ _ _ n l.invariant.first (omega arith) first);
       second = rw c.past-second.ensures (along_past _ _ _ n l.invariant.second (omega arith) second);
-      drawn = rw (c.draw.ensures.runs, c.keep-kept.ensures, c.begun.ensures, c.begun-in-loop-first.ensures)
+      drawn = rw (c.draw.ensures, c.keep-kept.ensures, c.begun.ensures, c.begun-in-loop-first.ensures)
           (merge_draws _ _ _ _ _ _ n l.invariant.first l.invariant.second first second _ past (omega arith) l.invariant.drawn);
     }
 
-pub returns-clause-merged : goal.returns-clause-merged
-returns-clause-merged c =
+pub returns : goal.returns
+returns c =
     let l = c.loop-first in
     drawn_merged _ _ _ _ _ _ _ l.invariant.first l.invariant.second (grind (arith, nat_tests)) (grind (arith, nat_tests)) l.invariant.drawn

@@ -8,7 +8,6 @@ abbrev pub invariant-loop-first : goal.invariant-loop-first
 invariant-loop-first l =
     record {
       x : l.x ≤ 256;
-      count : l.self.count ≤ 128;
       first : Along l.fn.first l.first l.x;
       second : Along l.fn.second l.second l.x;
       drawn : Drawn (kept_row l.operation l.fn.first l.fn.second) l.x (runs_of l.self);

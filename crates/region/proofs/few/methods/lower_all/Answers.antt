@@ -1,6 +1,6 @@
 use Rattle.boxes.specs.Strips.{lowered}
 use Rattle.region.proofs.Edges.{map_all, map_more}
-use Rattle.region.proofs.work.lower_all.Goals as goal
+use Rattle.region.proofs.few.methods.lower_all.Goals as goal
 
 pub loop-b-preserved : goal.loop-b-preserved
 loop-b-preserved c =
