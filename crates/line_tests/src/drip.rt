@@ -15,15 +15,15 @@ struct Drip<L> {
 }
 
 impl<L: Line> Line for Drip<L> {
-    ghost queue = { λ s. L.Line.queue s.below };
+    ghost queue = { λ s. (L.state s.below).queue };
 
     ghost ready = { λ s. (if s.awake then min 1 (L.Line.ready s.below) else 0) };
 
     ghost room = { λ s. min 1 (L.Line.room s.below) };
 
-    ghost within = { λ s. drip_within s.awake (L.Line.queue s.below) (L.Line.ready s.below) (L.Line.within s.below) };
+    ghost within = { λ s. drip_within s.awake (L.state s.below).queue (L.Line.ready s.below) (L.Line.within s.below) };
 
-    ghost opens = { λ s. drip_opens (L.Line.queue s.below) (L.Line.room s.below) (L.Line.opens s.below) };
+    ghost opens = { λ s. drip_opens (L.state s.below).queue (L.Line.room s.below) (L.Line.opens s.below) };
 
     fn queued(&self) -> usize {
         self.below.queued()

@@ -23,7 +23,7 @@ pub enum Answer {
 
 // Reads at most `most` bytes. Where there is no memory for that many, nothing is read.
 fn receive<L: Line>(heap: Global, line: &mut L, most: usize) -> Result<Vec<u8>, AllocError>
-    ensures { MatchResult result (λ v. Received most v.items (seen L.queue L.ready L.room line.old) (seen L.queue L.ready L.room line.new)) (λ _. seen L.queue L.ready L.room line.new ≡ seen L.queue L.ready L.room line.old) }
+    ensures { MatchResult result (λ v. Received most v.items (L.state line.old) (L.state line.new)) (λ _. L.state line.new ≡ L.state line.old) }
 {
     let mut into = vec![in heap; 0; most]?;
     let given = line.read(&mut into);
@@ -33,7 +33,7 @@ fn receive<L: Line>(heap: Global, line: &mut L, most: usize) -> Result<Vec<u8>, 
 
 // Makes one call. Where there is no memory for the bytes of a read, it is not made.
 fn make<L: Line>(heap: Global, line: &mut L, call: &Call) -> Result<Answer, AllocError>
-    ensures { MatchResult result (λ a. Answered (act call.now) (reply a) (seen L.queue L.ready L.room line.old) (seen L.queue L.ready L.room line.new)) (λ _. seen L.queue L.ready L.room line.new ≡ seen L.queue L.ready L.room line.old) }
+    ensures { MatchResult result (λ a. Answered (act call.now) (reply a) (L.state line.old) (L.state line.new)) (λ _. L.state line.new ≡ L.state line.old) }
 {
     match call {
         Call::Write(bytes) => Ok(Answer::Took(line.write(bytes))),
@@ -52,8 +52,8 @@ pub fn converse<L: Line>(
     line: &mut L,
     calls: &[Call],
 ) -> Result<Vec<Answer>, AllocError>
-    ensures ran { MatchResult result (λ v. Ran (map act calls.now) (map reply v.items) (seen L.queue L.ready L.room line.old) (seen L.queue L.ready L.room line.new)) (λ _. Stopped (map act calls.now) (seen L.queue L.ready L.room line.old) (seen L.queue L.ready L.room line.new)) }
-    ensures conserved { IfOk result (λ v. Conserved (map act calls.now) (map reply v.items) (seen L.queue L.ready L.room line.old) (seen L.queue L.ready L.room line.new)) }
+    ensures ran { MatchResult result (λ v. Ran (map act calls.now) (map reply v.items) (L.state line.old) (L.state line.new)) (λ _. Stopped (map act calls.now) (L.state line.old) (L.state line.new)) }
+    ensures conserved { IfOk result (λ v. Conserved (map act calls.now) (map reply v.items) (L.state line.old) (L.state line.new)) }
 {
     let mut answers = Vec::with_capacity(heap, calls.len())?;
     for call in calls {

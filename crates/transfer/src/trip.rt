@@ -17,7 +17,7 @@ struct Trip {
 
 // Writes bytes and flushes, also where none of them was taken; answers how many were.
 fn send<L: Line>(line: &mut L, bytes: &[u8]) -> usize
-    ensures { Ran (write bytes.now ∷ flush ∷ []) (took result ∷ done ∷ []) (seen L.queue L.ready L.room line.old) (seen L.queue L.ready L.room line.new) }
+    ensures { Ran (write bytes.now ∷ flush ∷ []) (took result ∷ done ∷ []) (L.state line.old) (L.state line.new) }
 {
     let taken = line.write(bytes);
     line.flush();
@@ -29,7 +29,7 @@ fn round<L: Line>(line: &mut L, bytes: &[u8], into: &mut [u8], trip: Trip) -> Tr
     requires sent { trip.sent ≤ length bytes.now }
     requires got { trip.got ≤ length bytes.now }
     requires memory { length bytes.now ≤ length into.old }
-    ensures { Advanced bytes.now trip.sent trip.got result.sent result.got into.old into.new (seen L.queue L.ready L.room line.old) (seen L.queue L.ready L.room line.new) }
+    ensures { Advanced bytes.now trip.sent trip.got result.sent result.got into.old into.new (L.state line.old) (L.state line.new) }
 {
     let Trip { sent, got } = trip;
     let end = bytes.len();
@@ -44,8 +44,8 @@ fn round<L: Line>(line: &mut L, bytes: &[u8], into: &mut [u8], trip: Trip) -> Tr
 // Makes rounds until all of the bytes have arrived, and answers how many.
 fn travel<L: Line>(line: &mut L, bytes: &[u8], into: &mut [u8]) -> usize
     requires memory { length bytes.now ≤ length into.old }
-    requires idle { length (L.queue line.old) ≡ 0 }
-    ensures { Carried result bytes.now into.old into.new (seen L.queue L.ready L.room line.old) (seen L.queue L.ready L.room line.new) }
+    requires idle { length (L.state line.old).queue ≡ 0 }
+    ensures { Carried result bytes.now into.old into.new (L.state line.old) (L.state line.new) }
 {
     let mut trip = Trip { sent: 0, got: 0 };
     let mut rounds = 0;
@@ -58,8 +58,8 @@ fn travel<L: Line>(line: &mut L, bytes: &[u8], into: &mut [u8]) -> usize
 
 // Carries `bytes` over a line that is empty to the start of `into`, and answers in how many rounds.
 pub fn carry<L: Line>(line: &mut L, bytes: &[u8], into: &mut [u8]) -> Result<usize, Refusal>
-    ensures refused { result_err result ≡ carry_refusal bytes.now into.old (L.queue line.old) }
-    ensures cases { MatchResult result (λ rounds. Carried rounds bytes.now into.old into.new (seen L.queue L.ready L.room line.old) (seen L.queue L.ready L.room line.new)) (λ _. (into.new ≡ into.old) × (line.new ≡ line.old)) }
+    ensures refused { result_err result ≡ carry_refusal bytes.now into.old (L.state line.old).queue }
+    ensures cases { MatchResult result (λ rounds. Carried rounds bytes.now into.old into.new (L.state line.old) (L.state line.new)) (λ _. (into.new ≡ into.old) × (line.new ≡ line.old)) }
 {
     if into.len() < bytes.len() {
         return Err(Refusal::Memory);

@@ -1,7 +1,7 @@
 // What a ring does.
 ghost use Rattle.line.specs.Queues.{Extended, around, place_behind, ring_size};
 ghost use Rattle.line.specs.Rings.{ring_opens, ring_within, ring_of, ring_state, size_of};
-ghost use Rattle.line.specs.Rules.{Flushed, Read, Wrote, seen, told};
+ghost use Rattle.line.specs.Rules.{Flushed, Read, Wrote};
 ghost use Rattle.fault.specs.declared.Refusal.TheVariants.{Memory};
 ghost use Rattle.std.specs.Prelude.{◌≡◌, ◌+◌, ◌-◌, ◌<◌, ◌≤◌, [], ◌++◌, length, take, drop, is_ok, vec_len, MatchResult};
 
@@ -98,15 +98,11 @@ fn load(memory: &[u8], at: usize, into: &mut [u8])
 }
 
 impl Line for Ring {
-    ghost queue = { λ s. (ring_state s).queue };
+    ghost state = { ring_state };
 
-    ghost ready = { λ s. (ring_state s).ready };
+    ghost within = { ring_within };
 
-    ghost room = { λ s. (ring_state s).room };
-
-    ghost within = { λ s. ring_within s };
-
-    ghost opens = { λ s. ring_opens s };
+    ghost opens = { ring_opens };
 
     fn queued(&self) -> usize {
         self.readable()

@@ -5,7 +5,7 @@ use Rattle.session.proofs.carried.Goals as goal
 
 pub returns-in-Ok : goal.returns-in-Ok
 returns-in-Ok g c =
-    let state = seen g.L.Line.queue g.L.Line.ready g.L.Line.room in
+    let state = g.L.Line.state in
     let told = c.in-Ok.ensures in
     let into = c.in_ok-into.into in
     let size = c.in_ok-into.ensures.len in

@@ -15,7 +15,7 @@ returns-in_err-answers g c =
 
 pub returns-in_err-answer : goal.returns-in_err-answer
 returns-in_err-answer g c =
-    let state = seen g.L.Line.queue g.L.Line.ready g.L.Line.room in
+    let state = g.L.Line.state in
     let failed = c.from_residual-in_err-answer in
     record {
       ran = MatchResult-from_err failed.result _ _ failed.ensures.0 (λ _. ran_only c.args.calls.now _ c.loop-call.call-index (state c.args.line.now) (state c.loop-call.line) (state c.make.new.line) (omega arith) c.loop-call.invariant.0 c.in_err-answer.ensures);
@@ -24,7 +24,7 @@ returns-in_err-answer g c =
 
 pub loop-call-preserved : goal.loop-call-preserved
 loop-call-preserved g c =
-    let state = seen g.L.Line.queue g.L.Line.ready g.L.Line.room in
+    let state = g.L.Line.state in
     let calls = c.args.calls.now in
     let answers = vec_items c.loop-call.answers in
     let i = c.loop-call.call-index in
@@ -36,7 +36,7 @@ loop-call-preserved g c =
 
 pub returns : goal.returns
 returns g c =
-    let state = seen g.L.Line.queue g.L.Line.ready g.L.Line.room in
+    let state = g.L.Line.state in
     let calls = c.args.calls.now in
     let replies = map reply (vec_items c.loop-call.answers) in
     let ran = ran_all calls replies c.loop-call.call-index (state c.args.line.now) (state c.loop-call.line) (omega arith) c.loop-call.invariant.0 in

@@ -6,7 +6,7 @@ use Rattle.transfer.proofs.calls.converse.Given as goal
 -- the calls so far were made and answered
 abbrev pub invariant-loop-call : goal.invariant-loop-call
 invariant-loop-call g l =
-    let state = seen g.L.Line.queue g.L.Line.ready g.L.Line.room in
+    let state = g.L.Line.state in
     Ran (map act (take l.call-index l.calls)) (map reply (vec_items l.answers)) (state l.initial.line) (state l.line)
     × (vec_len l.answers ≡ l.call-index)
     × (length l.calls ≤ vec_capacity l.answers)

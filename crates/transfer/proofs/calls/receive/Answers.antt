@@ -5,7 +5,7 @@ use Rattle.transfer.proofs.calls.receive.Goals as goal
 
 pub returns : goal.returns
 returns g c =
-    let state = seen g.L.Line.queue g.L.Line.ready g.L.Line.room in
+    let state = g.L.Line.state in
     let into = c.deref_mut.result.now in
     let into' = c.read-given.new.into in
     let fresh = c.in_ok-into.into in

@@ -6,7 +6,7 @@ use Rattle.transfer.proofs.trip.travel.Goals as goal
 
 pub loop-trip-init : goal.loop-trip-init
 loop-trip-init g c =
-    let state = seen g.L.Line.queue g.L.Line.ready g.L.Line.room in
+    let state = g.L.Line.state in
     setting_out c.args.bytes.now c.args.into.now (state c.args.line.now) (nil_from_length (g.L.Line.queue c.args.line.now) c.requires.idle)
 
 pub loop-trip-smaller : goal.loop-trip-smaller

@@ -9,7 +9,7 @@ invariant_of-self g c = search (rules, places)
 pub returns : goal.returns
 returns g c =
     let s = c.args.self.now in
-    let q = g.L.Line.queue s.below in
+    let q = (g.L.Line.state s.below).queue in
     let h = take s.count s.held in
     let new = c.args.bytes.now in
     let y = c.copy_from_slice.new.self in

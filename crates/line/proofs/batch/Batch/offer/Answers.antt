@@ -11,13 +11,13 @@ invariant_of-self g c = search (rules, places)
 pub returns : goal.returns
 returns g c =
     let s = c.args.self.now in
-    let q = g.L.Line.queue s.below in
+    let q = (g.L.Line.state s.below).queue in
     let h = take s.count s.held in
     let t = c.write-taken.result in
-    let q₁ = g.L.Line.queue c.write-taken.new.self in
+    let q₁ = (g.L.Line.state c.write-taken.new.self).queue in
     let kept : take (s.count - t) c.moved_up-self.result ≡ drop t h = c.moved_up-self.ensures ∙ between_is s.held t s.count in
     let wrote : q₁ ≡ q ++ take t h = c.write-taken.ensures.queued in
-    let took : t ≡ min (length h) (g.L.Line.room s.below) = c.write-taken.ensures.count in
+    let took : t ≡ min (length h) (g.L.Line.state s.below).room = c.write-taken.ensures.count in
     let le : t ≤ length h = omega arith in
     let opens = g.L.Line.opens s.below in
     let long : length q₁ ≡ length q + t = ap length wrote ∙ length-append q (take t h) ∙ ap (λ n. length q + n) (length-take-le t h le) in

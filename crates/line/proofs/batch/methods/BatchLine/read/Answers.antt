@@ -6,7 +6,7 @@ use Rattle.line.proofs.batch.methods.BatchLine.read.Goals as goal
 pub returns : goal.returns
 returns g c =
     let s = c.args.self.now in
-    let q = g.L.Line.queue s.below in
+    let q = (g.L.Line.state s.below).queue in
     let t = take s.count s.held in
     let r = c.read.result in
     let law = g.L.Line.within s.below in
