@@ -1,7 +1,6 @@
 // What is asked of a line, what it replies, and the reply in words.
 #![tactic(auto)]
 
-ghost use Rattle.line.specs.Rules.{seen};
 ghost use Rattle.transfer.specs.Runs.{Answered, act, reply as told};
 ghost use Rattle.session.specs.Replies.{Responded, spoken, words_of};
 ghost use Rattle.std.specs.Prelude.{◌≡◌, IfOk, string_bytes, MatchResult};

@@ -1,5 +1,4 @@
 // Calls to a line as values, so that a whole list of them can be made.
-ghost use Rattle.line.specs.Rules.{seen};
 ghost use Rattle.transfer.specs.Runs.{Answered, Conserved, Ran, Received, Stopped, act, reply};
 ghost use Rattle.std.specs.Prelude.{◌≡◌, map, IfOk, MatchResult};
 

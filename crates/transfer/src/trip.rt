@@ -1,5 +1,4 @@
 // A byte string from one end of a line to the other.
-ghost use Rattle.line.specs.Rules.{seen};
 ghost use Rattle.transfer.specs.Rounds.{Advanced, Carried, carry_refusal};
 ghost use Rattle.transfer.specs.Runs.{Ran, done, flush, took, write};
 ghost use Rattle.std.specs.Result.{result_err};

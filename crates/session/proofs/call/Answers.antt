@@ -1,5 +1,4 @@
 use Rattle.std.proofs.Common.{vec_items, ◌∙◌}
-use Rattle.line.specs.Rules.{seen}
 use Rattle.session.proofs.Single.{single}
 use Rattle.session.proofs.call.Goals as goal
 

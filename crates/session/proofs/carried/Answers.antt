@@ -1,5 +1,4 @@
 use Rattle.std.proofs.Common.{◌≡◌, length, vec_items, vec_len, arith}
-use Rattle.line.specs.Rules.{seen}
 use Rattle.session.proofs.Arrivals.{arrived}
 use Rattle.session.proofs.carried.Goals as goal
 

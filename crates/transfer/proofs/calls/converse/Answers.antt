@@ -1,6 +1,5 @@
 use Rattle.std.proofs.Common.{◌+◌, List, [], map, take, vec_items, sym, refl, subst, arith}
 use Rattle.std.proofs.lemmas.Result.{MatchResult-from_err, IfOk-from_err}
-use Rattle.line.specs.Rules.{seen}
 use Rattle.transfer.specs.declared.calls.Answer.{Answer}
 use Rattle.transfer.specs.Runs.{Ran, act, reply}
 use Rattle.transfer.proofs.Conserves.{conserved, ran_next, ran_only, ran_all}

@@ -1,5 +1,4 @@
 use Rattle.std.proofs.Common.{◌≡◌, ◌≤◌, map, length, take, vec_items, vec_len, vec_capacity}
-use Rattle.line.specs.Rules.{seen}
 use Rattle.transfer.specs.Runs.{Ran, act, reply}
 use Rattle.transfer.proofs.calls.converse.Given as goal
 

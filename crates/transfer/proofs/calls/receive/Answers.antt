@@ -1,5 +1,4 @@
 use Rattle.std.proofs.Common.{◌≡◌, ◌++◌, length, take, drop, vec_items, ap, ◌∙◌, arith}
-use Rattle.line.specs.Rules.{seen}
 use Rattle.transfer.proofs.Conserves.{received}
 use Rattle.transfer.proofs.calls.receive.Goals as goal
 

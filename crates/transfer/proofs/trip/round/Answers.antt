@@ -1,4 +1,3 @@
-use Rattle.line.specs.Rules.{seen}
 use Rattle.transfer.proofs.Travels.{advanced}
 use Rattle.transfer.proofs.trip.round.Goals as goal
 

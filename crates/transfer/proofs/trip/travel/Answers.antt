@@ -1,13 +1,12 @@
 use Rattle.std.proofs.Common.{arith}
 use Rattle.std.proofs.lemmas.List.{nil_from_length}
-use Rattle.line.specs.Rules.{seen}
 use Rattle.transfer.proofs.Travels.{setting_out, onward, arrived}
 use Rattle.transfer.proofs.trip.travel.Goals as goal
 
 pub loop-trip-init : goal.loop-trip-init
 loop-trip-init g c =
     let state = g.L.Line.state in
-    setting_out c.args.bytes.now c.args.into.now (state c.args.line.now) (nil_from_length (g.L.Line.queue c.args.line.now) c.requires.idle)
+    setting_out c.args.bytes.now c.args.into.now (state c.args.line.now) (nil_from_length (state c.args.line.now).queue c.requires.idle)
 
 pub loop-trip-smaller : goal.loop-trip-smaller
 loop-trip-smaller g c =

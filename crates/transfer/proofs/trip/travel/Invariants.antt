@@ -1,5 +1,4 @@
 use Rattle.std.proofs.Common.{◌-◌, length}
-use Rattle.line.specs.Rules.{seen}
 use Rattle.transfer.proofs.Travels.{Travelling}
 use Rattle.transfer.proofs.trip.travel.Given as goal
 

@@ -1,5 +1,4 @@
 use Rattle.std.proofs.Common.{eqb}
-use Rattle.line.specs.Rules.{seen}
 use Rattle.line_tests.proofs.Drops.{read_one}
 use Rattle.line_tests.proofs.drip.DripLine.read.Goals as goal
 

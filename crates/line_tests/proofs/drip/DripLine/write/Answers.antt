@@ -1,4 +1,3 @@
-use Rattle.line.specs.Rules.{seen}
 use Rattle.line_tests.proofs.Drops.{wrote_one}
 use Rattle.line_tests.proofs.drip.DripLine.write.Goals as goal
 
