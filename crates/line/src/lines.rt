@@ -7,12 +7,6 @@ pub trait Line {
     // write would take now.
     ghost state: { Self → State };
 
-    // The two standing rules. Beyond these and the contracts below, a line may change what can be
-    // read and what it would take however it likes.
-    ghost within: { (x : Self) → Within (state x).queue (state x).ready };
-
-    ghost opens: { (x : Self) → Opens (state x).queue (state x).room };
-
     // How many bytes are queued.
     fn queued(&self) -> usize
         ensures { result ≡ told (length (state self.now).queue) };
@@ -36,4 +30,10 @@ pub trait Line {
     // Hands on what was held back, so that something can be read unless nothing is queued.
     fn flush(&mut self)
         ensures { Flushed (state self.old) (state self.new) };
+
+    // The two standing rules. Beyond these and the contracts above, a line may change what can be
+    // read and what it would take however it likes.
+    ghost within: { (x : Self) → Within (state x).queue (state x).ready };
+
+    ghost opens: { (x : Self) → Opens (state x).queue (state x).room };
 }

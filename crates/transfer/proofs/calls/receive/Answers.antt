@@ -14,7 +14,7 @@ returns g c =
     let rest = drop (length into') (vec_items fresh) in
     let cut = c.truncate.ensures.items ∙ ap (λ z. take c.read-given.result (take z (into' ++ rest))) size in
     received into into' rest (vec_items c.truncate.new.self) c.args.most c.read-given.result (state c.args.line.now) (state c.read-given.new.self)
-    (g.L.Line.within c.args.line.now)
+    (g.met.L.Line.within c.args.line.now)
     long
     whole
     c.read-given.ensures

@@ -9,5 +9,5 @@ returns g c =
     c.requires.got
     c.requires.memory
     c.send-taken.ensures
-    (g.L.Line.within c.send-taken.new.line)
+    (g.met.L.Line.within c.send-taken.new.line)
     c.read-given.ensures

@@ -10,11 +10,11 @@ loop-trip-init g c =
 
 pub loop-trip-smaller : goal.loop-trip-smaller
 loop-trip-smaller g c =
-    let further = (onward (omega arith) (omega arith) (g.L.Line.opens c.loop-trip.line) c.loop-trip.invariant c.round-trip.ensures).1 in
+    let further = (onward (omega arith) (omega arith) (g.met.L.Line.opens c.loop-trip.line) c.loop-trip.invariant c.round-trip.ensures).1 in
     omega arith
 
 pub loop-trip-preserved : goal.loop-trip-preserved
-loop-trip-preserved g c = (onward (omega arith) (omega arith) (g.L.Line.opens c.loop-trip.line) c.loop-trip.invariant c.round-trip.ensures).0
+loop-trip-preserved g c = (onward (omega arith) (omega arith) (g.met.L.Line.opens c.loop-trip.line) c.loop-trip.invariant c.round-trip.ensures).0
 
 pub returns : goal.returns
 returns g c = arrived (omega arith) c.loop-trip.invariant

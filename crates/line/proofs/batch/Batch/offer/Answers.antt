@@ -19,7 +19,7 @@ returns g c =
     let wrote : q₁ ≡ q ++ take t h = c.write-taken.ensures.queued in
     let took : t ≡ min (length h) (g.L.Line.state s.below).room = c.write-taken.ensures.count in
     let le : t ≤ length h = omega arith in
-    let opens = g.L.Line.opens s.below in
+    let opens = g.met.L.Line.opens s.below in
     let long : length q₁ ≡ length q + t = ap length wrote ∙ length-append q (take t h) ∙ ap (λ n. length q + n) (length-take-le t h le) in
     record {
       offered = record { taken = t; wrote = c.write-taken.ensures; kept = kept };

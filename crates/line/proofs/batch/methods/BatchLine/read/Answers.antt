@@ -9,7 +9,7 @@ returns g c =
     let q = (g.L.Line.state s.below).queue in
     let t = take s.count s.held in
     let r = c.read.result in
-    let law = g.L.Line.within s.below in
+    let law = g.met.L.Line.within s.below in
     let le : r ≤ length q = omega arith in
     record {
       line = record {
