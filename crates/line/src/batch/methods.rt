@@ -1,10 +1,11 @@
 // What a batch does.
-ghost use Rattle.line.specs.Batches.{Offered, Pushed, batch_opens, batch_within, batch_state, held_few, held_by};
+ghost use Rattle.line.specs.Batches.{Offered, Pushed, batch_opens, batch_within, batch_state, held_by};
 ghost use Rattle.line.specs.Rules.{Flushed, Read, Wrote};
 ghost use Rattle.std.specs.Prelude.{◌≡◌, ◌+◌, ◌-◌, ◌≤◌, [], ◌++◌, length, take, drop};
 
-use super::{Batch, MOST};
+use super::Batch;
 use crate::lines::Line;
+use arrayvec::ArrayVec;
 
 impl<L: Line> Batch<L> {
     // A batch that holds nothing yet.
@@ -14,21 +15,8 @@ impl<L: Line> Batch<L> {
     {
         Batch {
             below,
-            held: [0; MOST],
-            count: 0,
+            held: ArrayVec::new(),
         }
-    }
-
-    // Holds bytes behind those that are held, and so behind all that is queued.
-    fn hold(&mut self, bytes: &[u8])
-        requires { self.old.count + length bytes.now ≤ 32 }
-        ensures held { held_by self.new ≡ held_by self.old ++ bytes.now }
-        ensures queue { (batch_state L.state self.new).queue ≡ (batch_state L.state self.old).queue ++ bytes.now }
-        ensures below { self.new.below ≡ self.old.below }
-    {
-        let end = self.count + bytes.len();
-        self.held[self.count..end].copy_from_slice(bytes);
-        self.count = end;
     }
 
     // Offers the held bytes below. The queue stays the same, and where there is one, the line below
@@ -38,31 +26,20 @@ impl<L: Line> Batch<L> {
         ensures queue { (batch_state L.state self.new).queue ≡ (batch_state L.state self.old).queue }
         ensures some { 1 ≤ length (batch_state L.state self.old).queue → 1 ≤ length (L.state self.new.below).queue }
     {
-        let taken = self.below.write(&self.held[..self.count]);
-        self.held = moved_up(&self.held, taken, self.count);
-        self.count -= taken;
+        let taken = self.below.write(&self.held);
+        self.held.drain(..taken);
     }
 }
 
-// An array that begins with the bytes `from..to` of `held`.
-fn moved_up(held: &[u8], from: usize, to: usize) -> [u8; MOST]
-    requires { (from ≤ to) × ((to ≤ length held.now) × (to ≤ 32)) }
-    ensures { take (to - from) result ≡ take (to - from) (drop from held.now) }
-{
-    let mut kept = [0; MOST];
-    kept[0..to - from].copy_from_slice(&held[from..to]);
-    kept
-}
-
 impl<L: Line> Line for Batch<L> {
-    ghost state = { λ s. batch_state L.state s };
+    ghost state = { batch_state L.state };
 
     ghost within = { λ s. batch_within (L.state s.below) (held_by s) (L.within s.below) };
 
-    ghost opens = { λ s. batch_opens (L.state s.below) (held_by s) (held_few s) };
+    ghost opens = { λ s. batch_opens (L.state s.below) (held_by s) };
 
     fn queued(&self) -> usize {
-        self.below.queued().saturating_add(self.count)
+        self.below.queued().saturating_add(self.held.len())
     }
 
     fn readable(&self) -> usize {
@@ -70,7 +47,7 @@ impl<L: Line> Line for Batch<L> {
     }
 
     fn free(&self) -> usize {
-        MOST - self.count
+        self.held.remaining_capacity()
     }
 
     fn write(&mut self, bytes: &[u8]) -> usize
@@ -78,8 +55,8 @@ impl<L: Line> Line for Batch<L> {
         ensures held { held_by self.new ≡ held_by self.old ++ take result bytes.now }
         ensures below { self.new.below ≡ self.old.below }
     {
-        let taken = bytes.len().min(self.free());
-        self.hold(&bytes[0..taken]);
+        let taken = bytes.len().min(self.held.remaining_capacity());
+        self.held.try_extend_from_slice(&bytes[..taken]).unwrap();
         taken
     }
 
