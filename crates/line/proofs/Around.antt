@@ -11,24 +11,6 @@ use Rattle.line.specs.Queues.{around, length-around, place_behind, Extended}
 pub get_or-around : (m : List ℕ) (h n i d : ℕ) → h < length m → n ≤ length m → i < n → get_or (around m h n) i d ≡ get_or m (place_behind (length m) h i) d
 get_or-around m h n i d a b l = grind (arith, places, nat_tests)
 
--- the two runs out of the memory are the ring's bytes
-pub loaded :
-    (m into x y : List ℕ) (at run : ℕ) → at < length m → length into ≤ length m → run ≡ min (length into) (length m - at)
-    → x ≡ take (at + run - at) (drop at m) → y ≡ take (length into - run - 0) m
-    → put_mid run (length into - run) (x ++ post_of 0 (run - 0) into) y ≡ around m at (length into)
-loaded m into x y at run a l e p q =
-    let n = length into in
-    let long-x : length x ≡ run = ap length p ∙ simp (length-take, length-drop) (omega arith) in
-    let long-y : length y ≡ n - run = ap length q ∙ simp length-take (omega arith) in
-    let long : length (around m at n) ≡ n = length-around m at n l in
-    same_lists _ _
-    (search (rules, places))
-    (λ k d u.
-    let right : get_or (around m at n) k d ≡ get_or m (place_behind (length m) at k) d = get_or-around m at n k d a l (grind (arith, places)) in
-    let in-x : get_or x k d ≡ get_or (take (at + run - at) (drop at m)) k d = ap (λ z. get_or z k d) p in
-    let in-y : get_or y (k - run) d ≡ get_or (take (n - run - 0) m) (k - run) d = ap (λ z. get_or z (k - run) d) q in
-    grind (arith, places, nat_tests))
-
 -- the memory after `bytes` went into it at `at`, the first `run` of them up to its end
 abbrev copied : List ℕ → ℕ → ℕ → List ℕ → List ℕ
 copied m at run bs = drop run bs ++ drop (length bs - run) (take at m ++ (take run bs ++ drop (at + run) m))
@@ -59,16 +41,13 @@ kept_or_new m bs at run h u i d e k f t v =
 
 -- after the two runs into the memory, what ended where they began goes on with them
 pub stored :
-    (m bs x y : List ℕ) (at run : ℕ) → at < length m → length bs ≤ length m → run ≡ min (length bs) (length m - at)
-    → x ≡ take (run - 0) bs → y ≡ take (length bs - run) (drop run bs)
-    → Extended m at bs (y ++ post_of 0 (length bs - run - 0) (put_mid at (at + run - at) m x))
-stored m bs x y at run a l e p q =
+    (m bs x y : List ℕ) (at run rest : ℕ) → at < length m → length bs ≤ length m → run ≡ min (length bs) (length m - at) → rest + run ≡ length bs → x ≡ take run bs → y ≡ drop run bs
+    → Extended m at bs (y ++ drop rest (put_mid at (at + run - at) m x))
+stored m bs x y at run rest a l e s p q =
     let n = length bs in
     let c = length m in
-    let m' = y ++ post_of 0 (n - run - 0) (put_mid at (at + run - at) m x) in
-    let front : y ≡ drop run bs = q ∙ take_rest bs run in
-    let few : n - run - 0 ≡ n - run = omega arith in
-    let middle : x ≡ take run bs = p ∙ ap (λ z. take z bs) (sub-zero run) in
+    let m' = y ++ drop rest (put_mid at (at + run - at) m x) in
+    let few : rest ≡ n - run = omega arith in
     let end : drop (at + run - at) (drop at m) ≡ drop (at + run) m = drop-drop (at + run - at) at m ∙ ap (λ z. drop z m) (omega arith) in
     let is : m' ≡ copied m at run bs = cc in
     let size : length (copied m at run bs) ≡ c = grind (arith, places) in (

@@ -80,10 +80,10 @@ fn store(memory: &mut [u8], at: usize, bytes: &[u8])
     requires { (at < length memory.old) × (length bytes.now ≤ length memory.old) }
     ensures { Extended memory.old at bytes.now memory.new }
 {
-    let count = bytes.len();
-    let run = count.min(memory.len() - at);
-    memory[at..at + run].copy_from_slice(&bytes[0..run]);
-    memory[0..count - run].copy_from_slice(&bytes[run..count]);
+    let run = bytes.len().min(memory.len() - at);
+    let (first, rest) = bytes.split_at(run);
+    memory[at..at + run].copy_from_slice(first);
+    memory[..rest.len()].copy_from_slice(rest);
 }
 
 // Copies the bytes of the memory from `at` on, in the same two runs.
@@ -91,10 +91,10 @@ fn load(memory: &[u8], at: usize, into: &mut [u8])
     requires { (at < length memory.now) × (length into.old ≤ length memory.now) }
     ensures { into.new ≡ around memory.now at (length into.old) }
 {
-    let count = into.len();
-    let run = count.min(memory.len() - at);
-    into[0..run].copy_from_slice(&memory[at..at + run]);
-    into[run..count].copy_from_slice(&memory[0..count - run]);
+    let run = into.len().min(memory.len() - at);
+    let (first, rest) = into.split_at_mut(run);
+    first.copy_from_slice(&memory[at..at + run]);
+    rest.copy_from_slice(&memory[..rest.len()]);
 }
 
 impl Line for Ring {
