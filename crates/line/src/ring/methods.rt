@@ -55,12 +55,15 @@ impl Ring {
         self.used += bytes.len();
     }
 
-    // The oldest bytes, as many as `into` has room for.
+    // The oldest bytes, as many as `into` has room for, in the same two runs.
     fn copy_to(&self, into: &mut [u8])
         requires { length into.old ≤ self.now.used }
         ensures { into.new ≡ take (length into.old) (ring_state self.now).queue }
     {
-        load(&self.memory, self.head, into);
+        let run = into.len().min(self.memory.len() - self.head);
+        let (first, rest) = into.split_at_mut(run);
+        first.copy_from_slice(&self.memory[self.head..self.head + run]);
+        rest.copy_from_slice(&self.memory[..rest.len()]);
     }
 
     // Lets the oldest bytes go.
@@ -84,17 +87,6 @@ fn store(memory: &mut [u8], at: usize, bytes: &[u8])
     let (first, rest) = bytes.split_at(run);
     memory[at..at + run].copy_from_slice(first);
     memory[..rest.len()].copy_from_slice(rest);
-}
-
-// Copies the bytes of the memory from `at` on, in the same two runs.
-fn load(memory: &[u8], at: usize, into: &mut [u8])
-    requires { (at < length memory.now) × (length into.old ≤ length memory.now) }
-    ensures { into.new ≡ around memory.now at (length into.old) }
-{
-    let run = into.len().min(memory.len() - at);
-    let (first, rest) = into.split_at_mut(run);
-    first.copy_from_slice(&memory[at..at + run]);
-    rest.copy_from_slice(&memory[..rest.len()]);
 }
 
 impl Line for Ring {
