@@ -1,11 +1,21 @@
 -- Copies into and out of a ring's memory, in two runs: up to the memory's end, and from its start.
-use Rattle.std.proofs.Common.{◌≡◌, ℕ, ◌+◌, ◌-◌, ◌<◌, ◌≤◌, min, cond, ltb, List, ◌++◌, length, get_or, take, drop, sym, ap, ◌∙◌, ⊎_elim, arith, length-append, length-drop, length-take, rules}
-use native.Mathlib.Nat.{sub-zero}
+use Rattle.std.proofs.Common.{◌≡◌, ℕ, ◌+◌, ◌-◌, ◌%◌, ◌<◌, ◌≤◌, min, cond, ltb, List, ◌++◌, length, get_or, take, drop, sym, ap, ◌∙◌, ⊎_elim, arith, length-append, length-drop, length-take, rules}
+use Rattle.std.proofs.Math.Nat.{mod-eq_of_lt, mod-eq-sub-mod}
 use borrow.Rule.Slice.PartMut.{put_mid, post_of}
 use Rattle.std.proofs.lemmas.List.{places, same_lists, take_rest, take-take, drop-drop, get_or-drop, get_or_append_left, get_or-append_right}
 use Rattle.std.proofs.lemmas.Bool.{cases_lt}
 use Rattle.std.proofs.lemmas.Bool.Decides.{nat_tests}
 use Rattle.line.specs.Queues.{around, length-around, place_behind, Extended}
+
+-- going round once at the memory's end
+pub place_is : (size from by : ℕ) → from < size → by ≤ size → (from + by) % size ≡ place_behind size from by
+place_is size from by a b =
+    ⊎_elim
+    (λ (w : from + by < size). mod-eq_of_lt w ∙ grind (arith, nat_tests))
+    (λ (w : size ≤ from + by).
+    let less : from + by - size < size = omega arith in
+    mod-eq-sub-mod w ∙ mod-eq_of_lt less ∙ grind (arith, nat_tests))
+    (cases_lt (from + by) size)
 
 -- what stands at a place of a ring
 pub get_or-around : (m : List ℕ) (h n i d : ℕ) → h < length m → n ≤ length m → i < n → get_or (around m h n) i d ≡ get_or m (place_behind (length m) h i) d
@@ -64,10 +74,7 @@ stored m bs x y at run rest a l e s p q =
           ∙ kept_or_new m bs at run h u i d e k f t (omega arith)),
     )
 
--- the ring's first bytes, and what is left when they are gone
-pub around-front : (m : List ℕ) (h u n : ℕ) → n ≤ u → take n (around m h u) ≡ around m h n
-around-front m h u n l = take-take n u (drop h m ++ take h m) l
-
+-- what is left of a ring's bytes when the first are gone
 pub around_rest : (m : List ℕ) (h u n : ℕ) → h < length m → u ≤ length m → n ≤ u → around m (place_behind (length m) h n) (u - n) ≡ drop n (around m h u)
 around_rest m h u n a l k =
     let c = length m in

