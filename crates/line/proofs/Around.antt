@@ -1,8 +1,8 @@
 -- Copies into and out of a ring's memory, in two runs: up to the memory's end, and from its start.
-use Rattle.std.proofs.Common.{◌≡◌, ℕ, ◌+◌, ◌-◌, ◌%◌, ◌<◌, ◌≤◌, min, cond, ltb, List, ◌++◌, length, get_or, take, drop, sym, ap, ◌∙◌, ⊎_elim, arith, length-append, length-drop, length-take, rules}
+use Rattle.std.proofs.Common.{◌≡◌, ℕ, ◌+◌, ◌-◌, ◌%◌, ◌<◌, ◌≤◌, min, cond, ltb, List, ◌++◌, length, get_or, take, drop, sym, ap, ◌∙◌, ⊎_elim, arith, length-append, length-drop}
 use Rattle.std.proofs.Math.Nat.{mod-eq_of_lt, mod-eq-sub-mod}
-use borrow.Rule.Slice.PartMut.{put_mid, post_of}
-use Rattle.std.proofs.lemmas.List.{places, same_lists, take_rest, take-take, drop-drop, get_or-drop, get_or_append_left, get_or-append_right}
+use borrow.Rule.Slice.PartMut.{put_mid}
+use Rattle.std.proofs.lemmas.List.{places, same_lists, drop-drop, get_or-drop, get_or_append_left, get_or-append_right}
 use Rattle.std.proofs.lemmas.Bool.{cases_lt}
 use Rattle.std.proofs.lemmas.Bool.Decides.{nat_tests}
 use Rattle.line.specs.Queues.{around, length-around, place_behind, Extended}
@@ -18,7 +18,7 @@ place_is size from by a b =
     (cases_lt (from + by) size)
 
 -- what stands at a place of a ring
-pub get_or-around : (m : List ℕ) (h n i d : ℕ) → h < length m → n ≤ length m → i < n → get_or (around m h n) i d ≡ get_or m (place_behind (length m) h i) d
+get_or-around : (m : List ℕ) (h n i d : ℕ) → h < length m → n ≤ length m → i < n → get_or (around m h n) i d ≡ get_or m (place_behind (length m) h i) d
 get_or-around m h n i d a b l = grind (arith, places, nat_tests)
 
 -- the memory after `bytes` went into it at `at`, the first `run` of them up to its end

@@ -5,7 +5,7 @@ ghost use Rattle.std.specs.Prelude.{◌≡◌, map, IfOk, MatchResult};
 use line::Line;
 use std::alloc::{AllocError, Global};
 
-#[derive(Drop)]
+#[derive(Debug, PartialEq, Eq, Drop)]
 pub enum Call {
     Write(Vec<u8>),
     // Into memory of that many bytes.
@@ -13,7 +13,7 @@ pub enum Call {
     Flush,
 }
 
-#[derive(Drop)]
+#[derive(Debug, PartialEq, Eq, Drop)]
 pub enum Answer {
     Took(usize),
     Gave(Vec<u8>),

@@ -51,7 +51,8 @@ impl Ring {
         self.used += bytes.len();
     }
 
-    // The oldest bytes, as many as `into` has room for, in the same two runs.
+    // The oldest bytes, as many as `into` has room for, in two runs: up to the memory's end, and
+    // from its start.
     fn copy_to(&self, into: &mut [u8])
         requires { length into.old ≤ self.now.used }
         ensures { into.new ≡ take (length into.old) (ring_state self.now).queue }
@@ -74,8 +75,7 @@ impl Ring {
     }
 }
 
-// Copies `bytes` into the memory from `at` on, in two runs: up to the memory's end, and from its
-// start.
+// Copies `bytes` into the memory from `at` on, in the same two runs.
 #[tactic(auto, using(crate::proofs::Around::stored))]
 fn store(memory: &mut [u8], at: usize, bytes: &[u8])
     requires { (at < length memory.old) × (length bytes.now ≤ length memory.old) }
@@ -111,7 +111,7 @@ impl Line for Ring {
         ensures size { size_of self.new ≡ size_of self.old }
     {
         let taken = bytes.len().min(self.free());
-        self.append(&bytes[0..taken]);
+        self.append(&bytes[..taken]);
         taken
     }
 
@@ -120,7 +120,7 @@ impl Line for Ring {
         ensures size { size_of self.new ≡ size_of self.old }
     {
         let given = into.len().min(self.used);
-        self.copy_to(&mut into[0..given]);
+        self.copy_to(&mut into[..given]);
         self.skip(given);
         given
     }
