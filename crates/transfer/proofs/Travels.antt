@@ -139,28 +139,26 @@ setting_out bytes into s e =
 
 -- one round more
 pub onward :
-    {bytes into₀ into into' : List ℕ} {s₀ s t : State} {sent got sent' got' rounds : ℕ} → length bytes ≤ length into₀ → got < length bytes → Opens s.queue s.room
+    (bytes into₀ into into' : List ℕ) (s₀ s t : State) (sent got sent' got' rounds : ℕ) → length bytes ≤ length into₀ → got < length bytes → Opens s.queue s.room
     → Travelling bytes into₀ s₀ sent got rounds into s → Advanced bytes sent got sent' got' into into' s t
-    → Travelling bytes into₀ s₀ sent' got' (rounds + 1) into' t × (got < got')
-onward {bytes} {into₀} {into} {into'} {s₀} {s} {t} {sent} {got} {sent'} {got'} {rounds} a l opens w v =
+    → Travelling bytes into₀ s₀ sent' got' (rounds + 1) into' t
+onward bytes into₀ into into' s₀ s t sent got sent' got' rounds a l opens w v =
     let on = underway_more bytes into₀ into into' sent got sent' got' s t a l opens w.underway v in
     let few = w.few in
-    let further = on.1 in (
-      record {
-        underway = on.0;
-        few = omega arith;
-        history = λ n z h.
-            let rest : Rounds n bytes (sent + v.taken) (got + length v.new) t z =
-            subst (λ (k : ℕ). Rounds n bytes (sent + v.taken) k t z) v.got_is (subst (λ (k : ℕ). Rounds n bytes k got' t z) v.sent_is h) in
-            subst (λ (k : ℕ). Rounds k bytes 0 0 s₀ z) (omega arith) (w.history (suc n) z (l, v.taken, v.new, t, v.round, rest));
-      },
-      further,
-    )
+    let further = on.1 in
+    record {
+      underway = on.0;
+      few = omega arith;
+      history = λ n z h.
+          let rest : Rounds n bytes (sent + v.taken) (got + length v.new) t z =
+          subst (λ (k : ℕ). Rounds n bytes (sent + v.taken) k t z) v.got_is (subst (λ (k : ℕ). Rounds n bytes k got' t z) v.sent_is h) in
+          subst (λ (k : ℕ). Rounds k bytes 0 0 s₀ z) (omega arith) (w.history (suc n) z (l, v.taken, v.new, t, v.round, rest));
+    }
 
 -- where all have arrived, they are all there is
 pub arrived :
-    {bytes into₀ into : List ℕ} {s₀ s : State} {sent got rounds : ℕ} → length bytes ≤ got → Travelling bytes into₀ s₀ sent got rounds into s → Carried rounds bytes into₀ into s₀ s
-arrived {bytes} {into₀} {into} {s₀} {s} {sent} {got} {rounds} l w =
+    (bytes into₀ into : List ℕ) (s₀ s : State) (sent got rounds : ℕ) → length bytes ≤ got → Travelling bytes into₀ s₀ sent got rounds into s → Carried rounds bytes into₀ into s₀ s
+arrived bytes into₀ into s₀ s sent got rounds l w =
     let u = w.underway in
     let sent_most = u.sent_most in
     let got_most = u.got_most in

@@ -24,6 +24,7 @@ fn send<L: Line>(line: &mut L, bytes: &[u8]) -> usize
 }
 
 // One round: writes what is not yet taken, flushes, and reads what has not yet arrived.
+#[tactic(auto, using(crate::proofs::Travels::advanced))]
 fn round<L: Line>(line: &mut L, bytes: &[u8], into: &mut [u8], trip: Trip) -> Trip
     requires sent { trip.sent ≤ length bytes.now }
     requires got { trip.got ≤ length bytes.now }
