@@ -37,20 +37,6 @@ ran_more [] (q ∷ rs) a r s m t h w = absurd h
 ran_more (b ∷ acts) [] a r s m t h w = absurd h
 ran_more (b ∷ acts) (q ∷ rs) a r s m t h w = (h.0, h.1, ran_more acts rs a r h.0 m t h.2 w)
 
--- a read into memory, as its caller sees it: `bs` is the part of the memory that was read into
-pub received :
-    (into into' rest bs : List ℕ) (most n : ℕ) (s t : State) → Within s.queue s.ready → length into ≡ most → length into' ≡ most → Read into n into' s t
-    → bs ≡ take n (take most (into' ++ rest)) → Received most bs s t
-received into into' rest bs most n s t l e f h p =
-    let q = s.queue in
-    let count = h.count in
-    let long : length (take n q) ≡ n = length-take-le n q (omega arith) in
-    let same : bs ≡ take n q = p ∙ ap (take n) (take_at into' rest most f ∙ h.moved) ∙ take_at (take n q) (drop n into) n long in
-    record {
-      count = ap length same ∙ long ∙ count ∙ ap (λ z. min z s.ready) e;
-      split = sym (take-append-drop n q) ∙ ap (λ z. take n q ++ z) (sym h.queued) ∙ ap (λ z. z ++ t.queue) (sym same);
-    }
-
 -- the calls before place `i` were made, and now the one at `i`
 pub ran_next :
     (calls : List Call) (answers : List Answer) (call : Call) (answer : Answer) (i : ℕ) (s m t : State) → i < length calls → call ≡ get_or calls i call

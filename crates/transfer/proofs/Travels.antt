@@ -19,11 +19,7 @@ placed :
     (into q part : List ℕ) (got end n : ℕ) → end ≤ length into → got ≤ end → n ≤ end - got → part ≡ take n q ++ drop n (take (end - got) (drop got into))
     → put_mid got (end - got) into part ≡ take got into ++ (take n q ++ drop (got + n) into)
 placed into q part got end n a b l e =
-    let x = drop got into in
-    let k = end - got in
-    let long : n ≤ length (take k x) = simp (length-take, length-drop) (omega arith) in
-    let rest : drop n (take k x) ++ drop k x ≡ drop (got + n) into = sym (drop-append-le n (take k x) (drop k x) long) ∙ ap (drop n) (take-append-drop k x) ∙ drop-drop n got into in
-    ap (λ z. take got into ++ (z ++ drop k x)) e ∙ ap (λ z. take got into ++ z) (append_assoc (take n q) (drop n (take k x)) (drop k x) ∙ ap (λ z. take n q ++ z) rest)
+    same_lists _ _ (grind (arith, places)) (λ i d h. grind (arith, places))
 
 -- a write and a flush, and then a read, are a round
 pub advanced :
@@ -128,14 +124,6 @@ pub record Travelling (bytes into₀ : List ℕ) (s₀ : State) (sent got rounds
   pub underway : Underway bytes into₀ sent got into s
   pub few : rounds ≤ got
   pub history : (n : ℕ) (t : State) → Rounds n bytes sent got s t → Rounds (rounds + n) bytes 0 0 s₀ t
-
-pub setting_out : (bytes into : List ℕ) (s : State) → s.queue ≡ [] → Travelling bytes into s 0 0 0 into s
-setting_out bytes into s e =
-    record {
-      underway = record { sent_most = omega arith; got_most = omega arith; queued = e; arrived = refl };
-      few = omega arith;
-      history = λ n t h. subst (λ (k : ℕ). Rounds k bytes 0 0 s t) (sym (zero-add n)) h;
-    }
 
 -- one round more
 pub onward :
