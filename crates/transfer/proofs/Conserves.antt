@@ -1,10 +1,10 @@
 -- Every run conserves the bytes.
-use Rattle.std.proofs.Common.{◌≡◌, ℕ, ◌+◌, ◌-◌, ◌<◌, ◌≤◌, min, List, [], ◌∷◌, ◌++◌, map, length, get_or, take, drop, sym, refl, ap, ◌∙◌, subst, arith}
-use Rattle.std.proofs.lemmas.List.{append_assoc, append-nil, length-take-le, take_at, take_all, take-append-drop, take-map, length-map, map_more, map_push}
-use Rattle.line.specs.Rules.{State, Within, Read}
+use Rattle.std.proofs.Common.{◌≡◌, ℕ, ◌+◌, ◌-◌, ◌<◌, ◌≤◌, List, [], ◌∷◌, ◌++◌, map, length, get_or, take, sym, refl, ap, ◌∙◌, subst, arith}
+use Rattle.std.proofs.lemmas.List.{append_assoc, append-nil, take_all, take-map, length-map, map_more, map_push}
+use Rattle.line.specs.Rules.{State}
 use Rattle.transfer.specs.declared.calls.Answer.{Answer}
 use Rattle.transfer.specs.declared.calls.Call.{Call}
-use Rattle.transfer.specs.Runs.{Act, write, read, flush, Reply, took, gave, done, Answered, Ran, Received, taken_in, given_in, taken, given, act, reply, Conserved, Stopped}
+use Rattle.transfer.specs.Runs.{Act, write, read, flush, Reply, took, gave, done, Answered, Ran, taken_in, given_in, taken, given, act, reply, Conserved, Stopped}
 
 -- one call conserves them
 once : (a : Act) (r : Reply) (s t : State) → Answered a r s t → given_in r ++ t.queue ≡ s.queue ++ taken_in a r

@@ -1,7 +1,7 @@
 -- A byte string under way: every round brings it further, and the rounds add up.
-use Rattle.std.proofs.Common.{◌≡◌, ℕ, suc, ◌+◌, ◌-◌, ◌<◌, ◌≤◌, min, List, [], ◌∷◌, ◌++◌, length, take, drop, sym, refl, ap, ◌∙◌, subst, add-zero, zero-add, arith, take-add}
+use Rattle.std.proofs.Common.{◌≡◌, ℕ, suc, ◌+◌, ◌-◌, ◌<◌, ◌≤◌, min, List, [], ◌∷◌, ◌++◌, length, take, drop, sym, refl, ap, ◌∙◌, subst, add-zero, arith}
 use borrow.Rule.Slice.PartMut.{put_mid}
-use Rattle.std.proofs.lemmas.List.{append_assoc, drop_all, drop-append-le, drop_at, drop-drop, length-append, length-drop, length-take, length-take-le, take_all, take-append-drop, take_at, take_rest, same_lists, places}
+use Rattle.std.proofs.lemmas.List.{drop_all, drop_at, drop-drop, length-append, length-drop, length-take, length-take-le, take_all, take-append-drop, take_at, take_rest, same_lists, places}
 use Rattle.line.specs.Rules.{State, Within, Opens, Wrote, Read, Flushed}
 use Rattle.transfer.specs.Runs.{Ran, Received, write, flush, took, done}
 use Rattle.transfer.specs.Rounds.{Rounds, Advanced, Carried}
@@ -48,28 +48,14 @@ advanced bytes into part sent got taken n s o t a b w l r =
 
 -- what is queued goes on with what is taken
 queue_on : (bytes : List ℕ) (sent got taken : ℕ) → got ≤ sent → sent ≤ length bytes → drop got (take sent bytes) ++ take taken (drop sent bytes) ≡ drop got (take (sent + taken) bytes)
-queue_on bytes sent got taken a b =
-    sym (drop-append-le got (take sent bytes) (take taken (drop sent bytes)) (simp length-take (omega arith))) ∙ ap (drop got) (sym (take-add sent taken bytes))
+queue_on bytes sent got taken a b = same_lists _ _ (grind (arith, places)) (λ i d h. grind (arith, places))
 
 -- what has arrived goes on with what is new
 into_on :
     (bytes into₀ into new : List ℕ) (got more : ℕ) → got ≤ length bytes → got + length new ≡ more → into ≡ take got bytes ++ drop got into₀ → new ≡ take (length new) (drop got bytes)
     → take got into ++ (new ++ drop more into) ≡ take more bytes ++ drop more into₀
 into_on bytes into₀ into new got more a e h k =
-    let long : length (take got bytes) ≡ got = length-take-le got bytes a in
-    let front : take got into ≡ take got bytes = ap (take got) h ∙ take_at (take got bytes) (drop got into₀) got long in
-    let behind : drop got into ≡ drop got into₀ = ap (drop got) h ∙ drop_at (take got bytes) (drop got into₀) got long in
-    let rest : drop more into ≡ drop more into₀ =
-    ap (λ z. drop z into) (sym e)
-    ∙ sym (drop-drop (length new) got into)
-    ∙ ap (drop (length new)) behind
-    ∙ drop-drop (length new) got into₀
-    ∙ ap (λ z. drop z into₀) e in
-    let both : take got bytes ++ new ≡ take more bytes = ap (λ z. take got bytes ++ z) k ∙ sym (take-add got (length new) bytes) ∙ ap (λ z. take z bytes) e in
-    ap (λ z. z ++ (new ++ drop more into)) front
-    ∙ sym (append_assoc (take got bytes) new (drop more into))
-    ∙ ap (λ z. z ++ drop more into) both
-    ∙ ap (λ z. take more bytes ++ z) rest
+    same_lists _ _ (grind (arith, places)) (λ i d u. grind (arith, places))
 
 -- the oldest of the bytes under way
 front_of : (bytes : List ℕ) (got sent n : ℕ) → got + n ≤ sent → take n (drop got (take sent bytes)) ≡ take n (drop got bytes)

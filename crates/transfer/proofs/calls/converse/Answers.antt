@@ -1,4 +1,4 @@
-use Rattle.std.proofs.Common.{rules, arith, map, vec_items}
+use Rattle.std.proofs.Common.{arith}
 use Rattle.std.proofs.lemmas.Result.{MatchResult-from_err}
 use Rattle.transfer.proofs.Conserves.{conserved, ran_only, ran_all}
 use Rattle.transfer.proofs.calls.converse.Goals as goal

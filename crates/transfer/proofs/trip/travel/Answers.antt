@@ -1,4 +1,4 @@
-use Rattle.std.proofs.Common.{rules, arith}
+use Rattle.std.proofs.Common.{arith}
 use Rattle.transfer.proofs.Travels.{onward, arrived}
 use Rattle.transfer.proofs.trip.travel.Goals as goal
 
