@@ -8,36 +8,26 @@ use fault::Refusal;
 use line::Line;
 
 // How many bytes the line has taken so far, and how many of them it has given.
-#[derive(Clone, Copy)]
+#[derive(Drop)]
 struct Trip {
     sent: usize,
     got: usize,
 }
 
-// Writes bytes and flushes, also where none of them was taken; answers how many were.
-fn send<L: Line>(line: &mut L, bytes: &[u8]) -> usize
-    ensures { Ran (write bytes.now ∷ flush ∷ []) (took result ∷ done ∷ []) (L.state line.old) (L.state line.new) }
-{
-    let taken = line.write(bytes);
-    line.flush();
-    taken
-}
-
-// One round: writes what is not yet taken, flushes, and reads what has not yet arrived.
-#[tactic(auto, using(crate::proofs::Travels::advanced))]
-fn round<L: Line>(line: &mut L, bytes: &[u8], into: &mut [u8], trip: Trip) -> Trip
-    requires sent { trip.sent ≤ length bytes.now }
-    requires got { trip.got ≤ length bytes.now }
-    requires memory { length bytes.now ≤ length into.old }
-    ensures { Advanced bytes.now trip.sent trip.got result.sent result.got into.old into.new (L.state line.old) (L.state line.new) }
-{
-    let Trip { sent, got } = trip;
-    let end = bytes.len();
-    let taken = send(line, &bytes[sent..]);
-    let given = line.read(&mut into[got..end]);
-    Trip {
-        sent: sent + taken,
-        got: got + given,
+impl Trip {
+    // One round: writes what is not yet taken, flushes, also where none of it was taken, and reads
+    // what has not yet arrived.
+    fn go_on<L: Line>(&mut self, line: &mut L, bytes: &[u8], into: &mut [u8])
+        requires sent { self.old.sent ≤ length bytes.now }
+        requires got { self.old.got ≤ length bytes.now }
+        requires memory { length bytes.now ≤ length into.old }
+        ensures { Advanced bytes.now self.old.sent self.old.got self.new.sent self.new.got into.old into.new (L.state line.old) (L.state line.new) }
+    {
+        let taken = line.write(&bytes[self.sent..]);
+        line.flush();
+        let given = line.read(&mut into[self.got..bytes.len()]);
+        self.sent += taken;
+        self.got += given;
     }
 }
 
@@ -50,7 +40,7 @@ fn travel<L: Line>(line: &mut L, bytes: &[u8], into: &mut [u8]) -> usize
     let mut trip = Trip { sent: 0, got: 0 };
     let mut rounds = 0;
     while trip.got < bytes.len() {
-        trip = round(line, bytes, into, trip);
+        trip.go_on(line, bytes, into);
         rounds += 1;
     }
     rounds
