@@ -11,17 +11,10 @@ once : (a : Act) (r : Reply) (s t : State) → Answered a r s t → given_in r +
 once (write bs) (took n) s t w = w.queued
 once (read n) (gave bs) s t w = sym w.split ∙ sym (append-nil s.queue)
 once flush done s t w = w.queued ∙ sym (append-nil s.queue)
-once (write bs) (gave other) s t w = absurd w
-once (write bs) done s t w = absurd w
-once (read n) (took k) s t w = absurd w
-once (read n) done s t w = absurd w
-once flush (took k) s t w = absurd w
-once flush (gave other) s t w = absurd w
+once a r s t w = absurd w
 
 pub conserved : (acts : List Act) (rs : List Reply) (s t : State) → Ran acts rs s t → Conserved acts rs s t
 conserved [] [] s t e = ap (λ (z : State). z.queue) (sym e) ∙ sym (append-nil s.queue)
-conserved [] (r ∷ rs) s t w = absurd w
-conserved (a ∷ acts) [] s t w = absurd w
 conserved (a ∷ acts) (r ∷ rs) s t w =
     let m = w.0 in
     append_assoc (given_in r) (given rs) t.queue
@@ -29,13 +22,13 @@ conserved (a ∷ acts) (r ∷ rs) s t w =
     ∙ sym (append_assoc (given_in r) m.queue (taken acts rs))
     ∙ ap (λ z. z ++ taken acts rs) (once a r s m w.1)
     ∙ append_assoc s.queue (taken_in a r) (taken acts rs)
+conserved acts rs s t w = absurd w
 
 -- a run goes on by one call
 pub ran_more : (acts : List Act) (rs : List Reply) (a : Act) (r : Reply) (s m t : State) → Ran acts rs s m → Answered a r m t → Ran (acts ++ a ∷ []) (rs ++ r ∷ []) s t
 ran_more [] [] a r s m t e w = (t, subst (λ (z : State). Answered a r z t) (sym e) w, refl)
-ran_more [] (q ∷ rs) a r s m t h w = absurd h
-ran_more (b ∷ acts) [] a r s m t h w = absurd h
 ran_more (b ∷ acts) (q ∷ rs) a r s m t h w = (h.0, h.1, ran_more acts rs a r h.0 m t h.2 w)
+ran_more acts rs a r s m t h w = absurd h
 
 -- the calls before place `i` were made, and now the one at `i`
 pub ran_next :
