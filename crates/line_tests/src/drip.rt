@@ -1,8 +1,6 @@
 // A line that is as slow as the rules allow: it takes one byte at a time, and after a byte is read
 // it gives no other until it is flushed. What is proved of every line holds of it too.
-ghost use Rattle.line.specs.Rules.{Flushed, Read, Wrote};
 ghost use Rattle.line_tests.specs.Drips.{drip_of, drip_opens, drip_within};
-ghost use Rattle.std.specs.Prelude.{◌≡◌, min, if◌then◌else◌};
 
 use line::{Batch, Line, Ring};
 use std::test::Fail;

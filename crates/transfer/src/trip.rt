@@ -1,8 +1,7 @@
 // A byte string from one end of a line to the other.
 ghost use Rattle.transfer.specs.Rounds.{Advanced, Carried, carry_refusal};
-ghost use Rattle.transfer.specs.Runs.{Ran, done, flush, took, write};
 ghost use Rattle.std.specs.Result.{result_err};
-ghost use Rattle.std.specs.Prelude.{◌≡◌, ◌≤◌, [], ◌∷◌, length, MatchResult};
+ghost use Rattle.std.specs.Prelude.{◌≡◌, ◌≤◌, length, MatchResult};
 
 use fault::Refusal;
 use line::Line;

@@ -1,7 +1,7 @@
 // What a batch does.
 ghost use Rattle.line.specs.Batches.{Offered, Pushed, batch_opens, batch_within, batch_state, held_by};
 ghost use Rattle.line.specs.Rules.{Flushed, Read, Wrote};
-ghost use Rattle.std.specs.Prelude.{◌≡◌, ◌+◌, ◌-◌, ◌≤◌, [], ◌++◌, length, take, drop};
+ghost use Rattle.std.specs.Prelude.{◌≡◌, ◌≤◌, [], ◌++◌, length, take};
 
 use super::Batch;
 use crate::lines::Line;

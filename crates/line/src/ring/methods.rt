@@ -1,9 +1,9 @@
 // What a ring does.
-ghost use Rattle.line.specs.Queues.{Extended, around, place_behind, ring_size};
+ghost use Rattle.line.specs.Queues.{Extended, place_behind, ring_size};
 ghost use Rattle.line.specs.Rings.{ring_opens, ring_within, ring_of, ring_state, size_of};
 ghost use Rattle.line.specs.Rules.{Flushed, Read, Wrote};
 ghost use Rattle.fault.specs.declared.Refusal.TheVariants.{Memory};
-ghost use Rattle.std.specs.Prelude.{◌≡◌, ◌+◌, ◌-◌, ◌<◌, ◌≤◌, [], ◌++◌, length, take, drop, is_ok, vec_len, MatchResult};
+ghost use Rattle.std.specs.Prelude.{◌≡◌, ◌+◌, ◌<◌, ◌≤◌, [], ◌++◌, length, take, drop, is_ok, vec_len, MatchResult};
 
 use super::Ring;
 use crate::lines::Line;
