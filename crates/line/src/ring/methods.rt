@@ -43,8 +43,7 @@ impl Ring {
     // Puts bytes behind those that are queued.
     fn append(&mut self, bytes: &[u8])
         requires { self.old.used + length bytes.now ≤ vec_len self.old.memory }
-        ensures queue { (ring_state self.new).queue ≡ (ring_state self.old).queue ++ bytes.now }
-        ensures size { size_of self.new ≡ size_of self.old }
+        ensures { ring_state self.new ≡ ring_of (size_of self.old) ((ring_state self.old).queue ++ bytes.now) }
     {
         let tail = self.place(self.used);
         store(&mut self.memory, tail, bytes);
@@ -67,8 +66,7 @@ impl Ring {
     #[tactic(auto, using(crate::proofs::Around::around_rest))]
     fn skip(&mut self, count: usize)
         requires { count ≤ self.old.used }
-        ensures queue { (ring_state self.new).queue ≡ drop count (ring_state self.old).queue }
-        ensures size { size_of self.new ≡ size_of self.old }
+        ensures { ring_state self.new ≡ ring_of (size_of self.old) (drop count (ring_state self.old).queue) }
     {
         self.head = self.place(count);
         self.used -= count;
