@@ -1,9 +1,9 @@
 -- A byte string under way: every round brings it further, and the rounds add up.
-use Rattle.std.proofs.Common.{◌≡◌, ℕ, suc, ◌+◌, ◌-◌, ◌<◌, ◌≤◌, min, List, ◌++◌, length, take, drop, sym, refl, ap, ◌∙◌, subst, add-zero, arith}
+use Rattle.std.proofs.Common.{◌≡◌, ℕ, suc, ◌+◌, ◌-◌, ◌<◌, ◌≤◌, min, List, [], ◌∷◌, ◌++◌, length, take, drop, sym, refl, ap, ◌∙◌, subst, add-zero, arith}
 use borrow.Rule.Slice.PartMut.{put_mid}
 use Rattle.std.proofs.lemmas.List.{drop_all, drop_at, drop-drop, length-append, length-drop, length-take, length-take-le, take_all, take-append-drop, take_at, take_rest, same_lists, places}
 use Rattle.line.specs.Rules.{State, Within, Opens, Wrote, Read, Flushed}
-use Rattle.transfer.specs.Runs.{Received}
+use Rattle.transfer.specs.Runs.{Ran, Received, write, flush, took, done}
 use Rattle.transfer.specs.Rounds.{Rounds, Advanced, Carried}
 
 -- How far a line has come: it has taken `sent` of the bytes and given `got` of those, which lie at
@@ -21,23 +21,26 @@ placed :
 placed into q part got end n a b l e =
     same_lists _ _ (grind (arith, places)) (λ i d h. grind (arith, places))
 
--- a write, a flush and a read are a round
+-- a write and a flush, and then a read, are a round
 pub advanced :
-    (bytes into part : List ℕ) (sent got taken n : ℕ) (s m o t : State) → got ≤ length bytes → length bytes ≤ length into
-    → Wrote (take (length bytes - sent) (drop sent bytes)) taken s m → Flushed m o → Within o.queue o.ready → Read (take (length bytes - got) (drop got into)) n part o t
+    (bytes into part : List ℕ) (sent got taken n : ℕ) (s o t : State) → got ≤ length bytes → length bytes ≤ length into
+    → Ran (write (take (length bytes - sent) (drop sent bytes)) ∷ flush ∷ []) (took taken ∷ done ∷ []) s o
+    → Within o.queue o.ready → Read (take (length bytes - got) (drop got into)) n part o t
     → Advanced bytes sent got (sent + taken) (got + n) into (put_mid got (length bytes - got) into part) s t
-advanced bytes into part sent got taken n s m o t a b w f l r =
+advanced bytes into part sent got taken n s o t a b w l r =
     let k = length bytes - got in
     let part-long : length (take k (drop got into)) ≡ k = simp (length-take, length-drop) (omega arith) in
     let count : n ≡ min k o.ready = r.count ∙ ap (λ z. min z o.ready) part-long in
     let new = take n o.queue in
     let long : length new ≡ n = length-take-le n o.queue (omega arith) in
-    let wrote : Wrote (drop sent bytes) taken s m = subst (λ (z : List ℕ). Wrote z taken s m) (take_rest bytes sent) w in
+    let m = w.0 in
+    let wrote : Wrote (drop sent bytes) taken s m = subst (λ (z : List ℕ). Wrote z taken s m) (take_rest bytes sent) w.1 in
+    let flushed : Flushed m o = subst (λ (z : State). Flushed m z) w.2.2 w.2.1 in
     let got-new : Received k new o t = record { count = long ∙ count; split = sym (take-append-drop n o.queue) ∙ ap (λ z. new ++ z) (sym r.queued) } in
     record {
       taken = taken;
       new = new;
-      round = (m, wrote, (o, f, (t, got-new, refl)));
+      round = (m, wrote, (o, flushed, (t, got-new, refl)));
       sent_is = refl;
       got_is = ap (λ z. got + z) (sym long);
       into_is = placed into o.queue part got (length bytes) n b a (omega arith) r.moved;

@@ -46,7 +46,7 @@ fn make<L: Line>(heap: Global, line: &mut L, call: &Call) -> Result<Answer, Allo
 
 // Makes the calls in their order, and gives their answers. Where memory runs out, the calls from
 // some place on are not made.
-#[tactic(auto, using(crate::proofs::Conserves::conserved, crate::proofs::Conserves::ran_next, crate::proofs::Conserves::ran_only))]
+#[tactic(auto, using(crate::proofs::Conserves::ran_next))]
 pub fn converse<L: Line>(
     heap: Global,
     line: &mut L,

@@ -1,10 +1,20 @@
 // A byte string from one end of a line to the other.
 ghost use Rattle.transfer.specs.Rounds.{Advanced, Carried, carry_refusal};
+ghost use Rattle.transfer.specs.Runs.{Ran, done, flush, took, write};
 ghost use Rattle.std.specs.Result.{result_err};
-ghost use Rattle.std.specs.Prelude.{◌≡◌, ◌≤◌, length, MatchResult};
+ghost use Rattle.std.specs.Prelude.{◌≡◌, ◌≤◌, [], ◌∷◌, length, MatchResult};
 
 use fault::Refusal;
 use line::Line;
+
+// Writes bytes and flushes, also where none of them was taken; answers how many were.
+fn send<L: Line>(line: &mut L, bytes: &[u8]) -> usize
+    ensures { Ran (write bytes.now ∷ flush ∷ []) (took result ∷ done ∷ []) (L.state line.old) (L.state line.new) }
+{
+    let taken = line.write(bytes);
+    line.flush();
+    taken
+}
 
 // How many bytes the line has taken so far, and how many of them it has given.
 #[derive(Drop)]
@@ -14,19 +24,16 @@ struct Trip {
 }
 
 impl Trip {
-    // One round: writes what is not yet taken, flushes, also where none of it was taken, and reads
-    // what has not yet arrived.
+    // One round: writes what is not yet taken, flushes, and reads what has not yet arrived.
+    #[tactic(auto, using(crate::proofs::Travels::advanced))]
     fn go_on<L: Line>(&mut self, line: &mut L, bytes: &[u8], into: &mut [u8])
         requires sent { self.old.sent ≤ length bytes.now }
         requires got { self.old.got ≤ length bytes.now }
         requires memory { length bytes.now ≤ length into.old }
         ensures { Advanced bytes.now self.old.sent self.old.got self.new.sent self.new.got into.old into.new (L.state line.old) (L.state line.new) }
     {
-        let taken = line.write(&bytes[self.sent..]);
-        line.flush();
-        let given = line.read(&mut into[self.got..bytes.len()]);
-        self.sent += taken;
-        self.got += given;
+        self.sent += send(line, &bytes[self.sent..]);
+        self.got += line.read(&mut into[self.got..bytes.len()]);
     }
 }
 

@@ -9,4 +9,4 @@ returns-in_err-answer-clause-ran g c =
     MatchResult-from_err failed.result _ _ failed.ensures.0 (λ _. ran_only c.args.calls.now _ c.loop-call.call-index _ _ _ (omega arith) c.loop-call.invariant.0 c.in_err-answer.ensures)
 
 pub returns-clause-conserved : goal.returns-clause-conserved
-returns-clause-conserved g c = conserved _ _ _ _ (ran_all c.args.calls.now _ c.loop-call.call-index _ _ c.loop-call-test.false c.loop-call.invariant.0)
+returns-clause-conserved g c = conserved _ _ _ _ (ran_all c.args.calls.now _ c.loop-call.call-index _ _ (omega arith) c.loop-call.invariant.0)

@@ -6,4 +6,4 @@ pub loop-trip-preserved : goal.loop-trip-preserved
 loop-trip-preserved g c = onward _ _ _ _ _ _ _ _ _ _ _ _ (omega arith) (omega arith) (g.met.L.Line.opens c.loop-trip.line) c.loop-trip.invariant c.go_on.ensures
 
 pub returns : goal.returns
-returns g c = arrived _ _ _ _ _ _ _ _ c.loop-trip-test.false c.loop-trip.invariant
+returns g c = arrived _ _ _ _ _ _ _ _ (omega arith) c.loop-trip.invariant
