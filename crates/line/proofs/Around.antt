@@ -1,106 +1,58 @@
 -- Copies into and out of a ring's memory, in two runs: up to the memory's end, and from its start.
-use Rattle.std.proofs.Common.{◌≡◌, ℕ, ◌+◌, ◌-◌, ◌<◌, ◌≤◌, min, cond, ltb, List, ◌++◌, length, get_or, take, drop, sym, ap, ◌∙◌, ⊎_elim, arith, length-append, length-drop, length-take, rules}
-use native.Mathlib.Nat.{sub-zero}
-use borrow.Rule.Slice.PartMut.{put_mid, post_of}
-use Rattle.std.proofs.lemmas.List.{places, same_lists, take_rest, take-take, drop-drop, get_or-drop, get_or_append_left, get_or-append_right}
+use Rattle.std.proofs.Common.{◌≡◌, ℕ, ◌+◌, ◌-◌, ◌%◌, ◌<◌, ◌≤◌, min, cond, ltb, List, ◌++◌, length, get_or, take, drop, ap, ◌∙◌, ⊎_elim, arith, length-append}
+use Rattle.std.proofs.Math.Nat.{mod-eq_of_lt, mod-eq-sub-mod}
+use borrow.Rule.Slice.PartMut.{put_mid}
+use Rattle.std.proofs.lemmas.List.{places, same_lists}
 use Rattle.std.proofs.lemmas.Bool.{cases_lt}
 use Rattle.std.proofs.lemmas.Bool.Decides.{nat_tests}
 use Rattle.line.specs.Queues.{around, length-around, place_behind, Extended}
 
+-- going round once at the memory's end
+pub place_is : (size from by : ℕ) → from < size → by ≤ size → (from + by) % size ≡ place_behind size from by
+place_is size from by a b =
+    ⊎_elim
+    (λ (w : from + by < size). mod-eq_of_lt w ∙ grind (arith, nat_tests))
+    (λ (w : size ≤ from + by).
+    let less : from + by - size < size = omega arith in
+    mod-eq-sub-mod w ∙ mod-eq_of_lt less ∙ grind (arith, nat_tests))
+    (cases_lt (from + by) size)
+
 -- what stands at a place of a ring
-pub get_or-around : (m : List ℕ) (h n i d : ℕ) → h < length m → n ≤ length m → i < n → get_or (around m h n) i d ≡ get_or m (place_behind (length m) h i) d
+get_or-around : (m : List ℕ) (h n i d : ℕ) → h < length m → n ≤ length m → i < n → get_or (around m h n) i d ≡ get_or m (place_behind (length m) h i) d
 get_or-around m h n i d a b l = grind (arith, places, nat_tests)
 
--- the two runs out of the memory are the ring's bytes
-pub loaded :
-    (m into x y : List ℕ) (at run : ℕ) → at < length m → length into ≤ length m → run ≡ min (length into) (length m - at)
-    → x ≡ take (at + run - at) (drop at m) → y ≡ take (length into - run - 0) m
-    → put_mid run (length into - run) (x ++ post_of 0 (run - 0) into) y ≡ around m at (length into)
-loaded m into x y at run a l e p q =
-    let n = length into in
-    let long-x : length x ≡ run = ap length p ∙ simp (length-take, length-drop) (omega arith) in
-    let long-y : length y ≡ n - run = ap length q ∙ simp length-take (omega arith) in
-    let long : length (around m at n) ≡ n = length-around m at n l in
-    same_lists _ _
-    (search (rules, places))
-    (λ k d u.
-    let right : get_or (around m at n) k d ≡ get_or m (place_behind (length m) at k) d = get_or-around m at n k d a l (grind (arith, places)) in
-    let in-x : get_or x k d ≡ get_or (take (at + run - at) (drop at m)) k d = ap (λ z. get_or z k d) p in
-    let in-y : get_or y (k - run) d ≡ get_or (take (n - run - 0) m) (k - run) d = ap (λ z. get_or z (k - run) d) q in
-    grind (arith, places, nat_tests))
-
--- the memory after `bytes` went into it at `at`, the first `run` of them up to its end
-abbrev copied : List ℕ → ℕ → ℕ → List ℕ → List ℕ
-copied m at run bs = drop run bs ++ drop (length bs - run) (take at m ++ (take run bs ++ drop (at + run) m))
+-- the memory after bytes went into it at `at`: `run` of them, `x`, up to its end, and the `rest`,
+-- `y`, from its start
+abbrev copied : List ℕ → (at run rest : ℕ) → (x y : List ℕ) → List ℕ
+copied m at run rest x y = y ++ drop rest (put_mid at (at + run - at) m x)
 
 get_or_copied :
-    (m bs : List ℕ) (at run k d : ℕ) → at + run ≤ length m → run ≤ length bs → length bs ≤ at + run → k < length m
-    → get_or (copied m at run bs) k d
-    ≡ cond (ltb k (length bs - run)) (get_or bs (run + k) d) (cond (ltb k at) (get_or m k d) (cond (ltb k (at + run)) (get_or bs (k - at) d) (get_or m k d)))
-get_or_copied m bs at run k d a b f l = grind (arith, places, nat_tests)
-
--- a byte that was there before stays, and a new one stands where it belongs
-kept_or_new :
-    (m bs : List ℕ) (at run h u i d : ℕ) → run ≡ min (length bs) (length m - at) → h < length m → u + length bs ≤ length m
-    → at ≡ place_behind (length m) h u → i < u + length bs
-    → get_or (copied m at run bs) (place_behind (length m) h i) d ≡ get_or (around m h u ++ bs) i d
-kept_or_new m bs at run h u i d e k f t v =
-    let ends : length (around m h u) ≡ u = length-around m h u (omega arith) in
-    let here : place_behind (length m) h i < length m = grind (arith, nat_tests) in
-    let left = get_or_copied m bs at run (place_behind (length m) h i) d (grind (arith, nat_tests)) (grind (arith, nat_tests)) (grind (arith, nat_tests)) here in
-    ⊎_elim
-    (λ (w : i < u).
-    let right = get_or_append_left (around m h u) bs d i (omega arith) ∙ get_or-around m h u i d k (omega arith) w in
-    left ∙ grind (arith, nat_tests) ∙ sym right)
-    (λ (w : u ≤ i).
-    let right = get_or-append_right (around m h u) bs u i d ends w in
-    left ∙ grind (arith, nat_tests) ∙ sym right)
-    (cases_lt i u)
+    (m bs x y : List ℕ) (at run rest k d : ℕ) → at < length m → length bs ≤ length m → run ≡ min (length bs) (length m - at) → rest + run ≡ length bs → x ≡ take run bs → y ≡ drop run bs → k < length m
+    → get_or (copied m at run rest x y) k d
+    ≡ cond (ltb k rest) (get_or bs (run + k) d) (cond (ltb k at) (get_or m k d) (cond (ltb k (at + run)) (get_or bs (k - at) d) (get_or m k d)))
+get_or_copied m bs x y at run rest k d a l e s p q h = grind (arith, places, nat_tests)
 
 -- after the two runs into the memory, what ended where they began goes on with them
 pub stored :
-    (m bs x y : List ℕ) (at run : ℕ) → at < length m → length bs ≤ length m → run ≡ min (length bs) (length m - at)
-    → x ≡ take (run - 0) bs → y ≡ take (length bs - run) (drop run bs)
-    → Extended m at bs (y ++ post_of 0 (length bs - run - 0) (put_mid at (at + run - at) m x))
-stored m bs x y at run a l e p q =
-    let n = length bs in
-    let c = length m in
-    let m' = y ++ post_of 0 (n - run - 0) (put_mid at (at + run - at) m x) in
-    let front : y ≡ drop run bs = q ∙ take_rest bs run in
-    let few : n - run - 0 ≡ n - run = omega arith in
-    let middle : x ≡ take run bs = p ∙ ap (λ z. take z bs) (sub-zero run) in
-    let end : drop (at + run - at) (drop at m) ≡ drop (at + run) m = drop-drop (at + run - at) at m ∙ ap (λ z. drop z m) (omega arith) in
-    let is : m' ≡ copied m at run bs = cc in
-    let size : length (copied m at run bs) ≡ c = grind (arith, places) in (
-      ap length is ∙ size,
+    (m bs x y : List ℕ) (at run rest : ℕ) → at < length m → length bs ≤ length m → run ≡ min (length bs) (length m - at) → rest + run ≡ length bs → x ≡ take run bs → y ≡ drop run bs
+    → Extended m at bs (y ++ drop rest (put_mid at (at + run - at) m x))
+stored m bs x y at run rest a l e s p q =
+    let size : length (copied m at run rest x y) ≡ length m = grind (arith, places) in (
+      size,
       λ h u k f t.
           let ends : length (around m h u) ≡ u = length-around m h u (omega arith) in
-          let long : length (around (copied m at run bs) h (u + n)) ≡ u + n = length-around (copied m at run bs) h (u + n) (omega arith) in
-          ap (λ z. around z h (u + n)) is
-          ∙ same_lists _ _
+          let long : length (around (copied m at run rest x y) h (u + length bs)) ≡ u + length bs = length-around (copied m at run rest x y) h (u + length bs) (omega arith) in
+          same_lists _ _
           (omega (arith, length-append (around m h u) bs))
           (λ i d v.
-          get_or-around (copied m at run bs) h (u + n) i d (omega arith) (omega arith) (omega arith)
-          ∙ ap (λ z. get_or (copied m at run bs) (place_behind z h i) d) size
-          ∙ kept_or_new m bs at run h u i d e k f t (omega arith)),
+          let here : place_behind (length m) h i < length m = grind (arith, nat_tests) in
+          get_or-around (copied m at run rest x y) h (u + length bs) i d (omega arith) (omega arith) (omega arith)
+          ∙ ap (λ z. get_or (copied m at run rest x y) (place_behind z h i) d) size
+          ∙ get_or_copied m bs x y at run rest (place_behind (length m) h i) d a l e s p q here
+          ∙ grind (arith, places, nat_tests)),
     )
 
--- the ring's first bytes, and what is left when they are gone
-pub around-front : (m : List ℕ) (h u n : ℕ) → n ≤ u → take n (around m h u) ≡ around m h n
-around-front m h u n l = take-take n u (drop h m ++ take h m) l
-
+-- what is left of a ring's bytes when the first are gone
 pub around_rest : (m : List ℕ) (h u n : ℕ) → h < length m → u ≤ length m → n ≤ u → around m (place_behind (length m) h n) (u - n) ≡ drop n (around m h u)
 around_rest m h u n a l k =
-    let c = length m in
-    let h' = place_behind c h n in
-    let here : h' < c = grind (arith, nat_tests) in
-    let was : length (around m h u) ≡ u = length-around m h u l in
-    let long : length (around m h' (u - n)) ≡ u - n = length-around m h' (u - n) (omega arith) in
-    same_lists _ _
-    (omega (arith, length-drop n (around m h u)))
-    (λ i d v.
-    let round : place_behind c h' i ≡ place_behind c h (n + i) = grind (arith, nat_tests) in
-    get_or-around m h' (u - n) i d here (omega arith) (omega arith)
-    ∙ ap (λ z. get_or m z d) round
-    ∙ sym (get_or-around m h u (n + i) d a l (omega arith))
-    ∙ sym (get_or-drop n (around m h u) i d))
+    same_lists _ _ (grind (arith, places, nat_tests)) (λ i d v. grind (arith, places, nat_tests))

@@ -1,6 +1,6 @@
 -- A batch as a line.
-use Rattle.std.specs.Prelude.{◌≡◌, ℕ, ◌-◌, ◌≤◌, List, ◌++◌, length, take, drop}
-use Rattle.std.proofs.Common.{arith, length-append, length-take}
+use Rattle.std.specs.Prelude.{◌≡◌, ℕ, ◌-◌, List, ◌++◌, length, drop}
+use Rattle.std.proofs.Common.{arith, length-append}
 use Rattle.line.specs.Rules.{State, Within, Opens, Wrote, Flushed}
 use Rattle.line.specs.declared.batch.Batch.{Batch}
 
@@ -11,15 +11,10 @@ batch_of below held = record { queue = below.queue ++ held; ready = below.ready;
 
 -- the bytes that a batch holds back
 abbrev pub held_by : {L : Type 0} → Batch L → List ℕ
-held_by batch = take batch.count batch.held
+held_by batch = batch.held.items
 
 abbrev pub batch_state : {L : Type 0} → (L → State) → Batch L → State
 batch_state lower batch = batch_of (lower batch.below) (held_by batch)
-
-pub held_few : {L : Type 0} (batch : Batch L) → length (held_by batch) ≤ 32
-held_few batch =
-    let size = batch.size in
-    omega (arith, length-take batch.count batch.held)
 
 -- The held bytes were offered below in one write; what was not taken stays held, in order.
 pub record Offered (held : List ℕ) (before : State) (held' : List ℕ) (after : State) : Type 0 where
@@ -36,5 +31,5 @@ pub record Pushed (held : List ℕ) (before : State) (held' : List ℕ) (after :
 pub batch_within : (below : State) (held : List ℕ) → Within below.queue below.ready → Within (batch_of below held).queue (batch_of below held).ready
 batch_within below held l = omega (arith, length-append below.queue held)
 
-pub batch_opens : (below : State) (held : List ℕ) → length held ≤ 32 → Opens (batch_of below held).queue (batch_of below held).room
-batch_opens below held l = omega (arith, length-append below.queue held)
+pub batch_opens : (below : State) (held : List ℕ) → Opens (batch_of below held).queue (batch_of below held).room
+batch_opens below held = omega (arith, length-append below.queue held)

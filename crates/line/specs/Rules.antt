@@ -8,10 +8,6 @@ pub record State : Type 0 where
   pub ready : ℕ
   pub room : ℕ
 
--- the state of a line, by its three ghost members
-abbrev pub seen : {L : Type 0} → (L → List ℕ) → (L → ℕ) → (L → ℕ) → L → State
-seen queue ready room line = record { queue = queue line; ready = ready line; room = room line }
-
 -- What a question answers: the number asked for, or the greatest `usize` where that is less.
 abbrev pub told : ℕ → ℕ
 told n = min n (2 ^ 64 - 1)

@@ -1,6 +1,5 @@
 // A line over memory of its own: what was written can be read at once.
-ghost use Rattle.line.specs.Queues.{around};
-ghost use Rattle.std.specs.Prelude.{◌≡◌, ◌<◌, ◌≤◌, length, vec_len};
+ghost use Rattle.std.specs.Prelude.{◌<◌, ◌≤◌, vec_len};
 
 mod methods;
 
@@ -13,5 +12,4 @@ pub struct Ring {
     ghost size: { vec_len memory ≤ 65536 },
     ghost inside: { head < vec_len memory },
     ghost fits: { used ≤ vec_len memory },
-    ghost count: { length (around memory.items head used) ≡ used },
 }

@@ -1,8 +1,6 @@
 // A line that is as slow as the rules allow: it takes one byte at a time, and after a byte is read
 // it gives no other until it is flushed. What is proved of every line holds of it too.
-ghost use Rattle.line.specs.Rules.{Flushed, Read, Wrote, seen, told};
-ghost use Rattle.line_tests.specs.Drips.{drip_opens, drip_within};
-ghost use Rattle.std.specs.Prelude.{◌≡◌, min, if◌then◌else◌};
+ghost use Rattle.line_tests.specs.Drips.{drip_of, drip_opens, drip_within};
 
 use line::{Batch, Line, Ring};
 use std::test::Fail;
@@ -15,15 +13,11 @@ struct Drip<L> {
 }
 
 impl<L: Line> Line for Drip<L> {
-    ghost queue = { λ s. L.Line.queue s.below };
+    ghost state = { λ s. drip_of s.awake (L.state s.below) };
 
-    ghost ready = { λ s. (if s.awake then min 1 (L.Line.ready s.below) else 0) };
+    ghost within = { λ s. drip_within s.awake (L.state s.below) (L.within s.below) };
 
-    ghost room = { λ s. min 1 (L.Line.room s.below) };
-
-    ghost within = { λ s. drip_within s.awake (L.Line.queue s.below) (L.Line.ready s.below) (L.Line.within s.below) };
-
-    ghost opens = { λ s. drip_opens (L.Line.queue s.below) (L.Line.room s.below) (L.Line.opens s.below) };
+    ghost opens = { λ s. drip_opens s.awake (L.state s.below) (L.opens s.below) };
 
     fn queued(&self) -> usize {
         self.below.queued()

@@ -7,10 +7,7 @@ use transfer::{Answer, Call, carry, converse};
 // A ring over memory of that many bytes.
 fn ring(heap: Global, size: usize) -> Result<Ring, Fail> {
     let memory = vec![in heap; 0; size]?;
-    match Ring::new(memory) {
-        Ok(ring) => Ok(ring),
-        Err(_) => Err(Fail::new("no ring")),
-    }
+    Ring::new(memory).map_err(|_| Fail::new("no ring"))
 }
 
 #[test]

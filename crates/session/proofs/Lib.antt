@@ -1,3 +1,1 @@
-pub mod Arrivals
 pub mod Listed
-pub mod Single

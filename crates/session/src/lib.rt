@@ -1,7 +1,6 @@
 // What is asked of a line, what it replies, and the reply in words.
 #![tactic(auto)]
 
-ghost use Rattle.line.specs.Rules.{seen};
 ghost use Rattle.transfer.specs.Runs.{Answered, act, reply as told};
 ghost use Rattle.session.specs.Replies.{Responded, spoken, words_of};
 ghost use Rattle.std.specs.Prelude.{◌≡◌, IfOk, string_bytes, MatchResult};
@@ -41,7 +40,7 @@ pub enum Reply {
 
 // Makes one call.
 fn call<L: Line>(heap: Global, line: &mut L, call: Call) -> Result<Answer, AllocError>
-    ensures { MatchResult result (λ a. Answered (act call) (told a) (seen L.queue L.ready L.room line.old) (seen L.queue L.ready L.room line.new)) (λ _. seen L.queue L.ready L.room line.new ≡ seen L.queue L.ready L.room line.old) }
+    ensures { MatchResult result (λ a. Answered (act call) (told a) (L.state line.old) (L.state line.new)) (λ _. L.state line.new ≡ L.state line.old) }
 {
     let calls = vec![in heap; call]?;
     let mut answers = converse(heap, line, &calls)?;
@@ -53,7 +52,7 @@ fn call<L: Line>(heap: Global, line: &mut L, call: Call) -> Result<Answer, Alloc
 
 // Carries bytes to memory of their length.
 fn carried<L: Line>(heap: Global, line: &mut L, bytes: Vec<u8>) -> Result<Reply, AllocError>
-    ensures { MatchResult result (λ a. Responded (Request.Carry bytes) a (seen L.queue L.ready L.room line.old) (seen L.queue L.ready L.room line.new)) (λ _. seen L.queue L.ready L.room line.new ≡ seen L.queue L.ready L.room line.old) }
+    ensures { MatchResult result (λ a. Responded (Request.Carry bytes) a (L.state line.old) (L.state line.new)) (λ _. L.state line.new ≡ L.state line.old) }
 {
     let mut into = vec![in heap; 0; bytes.len()]?;
     match carry(line, &bytes, &mut into) {
@@ -67,7 +66,7 @@ fn carried<L: Line>(heap: Global, line: &mut L, bytes: Vec<u8>) -> Result<Reply,
 
 // Does what is requested of the line. Where memory runs out, nothing is done.
 pub fn respond<L: Line>(heap: Global, line: &mut L, request: Request) -> Result<Reply, AllocError>
-    ensures { MatchResult result (λ a. Responded request a (seen L.queue L.ready L.room line.old) (seen L.queue L.ready L.room line.new)) (λ _. seen L.queue L.ready L.room line.new ≡ seen L.queue L.ready L.room line.old) }
+    ensures { MatchResult result (λ a. Responded request a (L.state line.old) (L.state line.new)) (λ _. L.state line.new ≡ L.state line.old) }
 {
     match request {
         Request::Make(made) => Ok(Reply::Made(call(heap, line, made)?)),

@@ -1,27 +1,20 @@
 -- Every run conserves the bytes.
-use Rattle.std.proofs.Common.{◌≡◌, ℕ, ◌+◌, ◌-◌, ◌<◌, ◌≤◌, min, List, [], ◌∷◌, ◌++◌, map, length, get_or, take, drop, sym, refl, ap, ◌∙◌, subst, arith}
-use Rattle.std.proofs.lemmas.List.{append_assoc, append-nil, length-take-le, take_at, take_all, take-append-drop, take-map, length-map, map_more, map_push}
-use Rattle.line.specs.Rules.{State, Within, Read}
+use Rattle.std.proofs.Common.{◌≡◌, ℕ, ◌+◌, ◌-◌, ◌<◌, ◌≤◌, List, [], ◌∷◌, ◌++◌, map, length, get_or, take, sym, refl, ap, ◌∙◌, subst, arith}
+use Rattle.std.proofs.lemmas.List.{append_assoc, append-nil, take_all, take-map, length-map, map_more, map_push}
+use Rattle.line.specs.Rules.{State}
 use Rattle.transfer.specs.declared.calls.Answer.{Answer}
 use Rattle.transfer.specs.declared.calls.Call.{Call}
-use Rattle.transfer.specs.Runs.{Act, write, read, flush, Reply, took, gave, done, Answered, Ran, Received, taken_in, given_in, taken, given, act, reply, Conserved, Stopped}
+use Rattle.transfer.specs.Runs.{Act, write, read, flush, Reply, took, gave, done, Answered, Ran, taken_in, given_in, taken, given, act, reply, Conserved, Stopped}
 
 -- one call conserves them
 once : (a : Act) (r : Reply) (s t : State) → Answered a r s t → given_in r ++ t.queue ≡ s.queue ++ taken_in a r
 once (write bs) (took n) s t w = w.queued
 once (read n) (gave bs) s t w = sym w.split ∙ sym (append-nil s.queue)
 once flush done s t w = w.queued ∙ sym (append-nil s.queue)
-once (write bs) (gave other) s t w = absurd w
-once (write bs) done s t w = absurd w
-once (read n) (took k) s t w = absurd w
-once (read n) done s t w = absurd w
-once flush (took k) s t w = absurd w
-once flush (gave other) s t w = absurd w
+once a r s t w = absurd w
 
 pub conserved : (acts : List Act) (rs : List Reply) (s t : State) → Ran acts rs s t → Conserved acts rs s t
 conserved [] [] s t e = ap (λ (z : State). z.queue) (sym e) ∙ sym (append-nil s.queue)
-conserved [] (r ∷ rs) s t w = absurd w
-conserved (a ∷ acts) [] s t w = absurd w
 conserved (a ∷ acts) (r ∷ rs) s t w =
     let m = w.0 in
     append_assoc (given_in r) (given rs) t.queue
@@ -29,27 +22,13 @@ conserved (a ∷ acts) (r ∷ rs) s t w =
     ∙ sym (append_assoc (given_in r) m.queue (taken acts rs))
     ∙ ap (λ z. z ++ taken acts rs) (once a r s m w.1)
     ∙ append_assoc s.queue (taken_in a r) (taken acts rs)
+conserved acts rs s t w = absurd w
 
 -- a run goes on by one call
 pub ran_more : (acts : List Act) (rs : List Reply) (a : Act) (r : Reply) (s m t : State) → Ran acts rs s m → Answered a r m t → Ran (acts ++ a ∷ []) (rs ++ r ∷ []) s t
 ran_more [] [] a r s m t e w = (t, subst (λ (z : State). Answered a r z t) (sym e) w, refl)
-ran_more [] (q ∷ rs) a r s m t h w = absurd h
-ran_more (b ∷ acts) [] a r s m t h w = absurd h
 ran_more (b ∷ acts) (q ∷ rs) a r s m t h w = (h.0, h.1, ran_more acts rs a r h.0 m t h.2 w)
-
--- a read into memory, as its caller sees it: `bs` is the part of the memory that was read into
-pub received :
-    (into into' rest bs : List ℕ) (most n : ℕ) (s t : State) → Within s.queue s.ready → length into ≡ most → length into' ≡ most → Read into n into' s t
-    → bs ≡ take n (take most (into' ++ rest)) → Received most bs s t
-received into into' rest bs most n s t l e f h p =
-    let q = s.queue in
-    let count = h.count in
-    let long : length (take n q) ≡ n = length-take-le n q (omega arith) in
-    let same : bs ≡ take n q = p ∙ ap (take n) (take_at into' rest most f ∙ h.moved) ∙ take_at (take n q) (drop n into) n long in
-    record {
-      count = ap length same ∙ long ∙ count ∙ ap (λ z. min z s.ready) e;
-      split = sym (take-append-drop n q) ∙ ap (λ z. take n q ++ z) (sym h.queued) ∙ ap (λ z. z ++ t.queue) (sym same);
-    }
+ran_more acts rs a r s m t h w = absurd h
 
 -- the calls before place `i` were made, and now the one at `i`
 pub ran_next :

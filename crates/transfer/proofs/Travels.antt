@@ -1,7 +1,7 @@
 -- A byte string under way: every round brings it further, and the rounds add up.
-use Rattle.std.proofs.Common.{◌≡◌, ℕ, suc, ◌+◌, ◌-◌, ◌<◌, ◌≤◌, min, List, [], ◌∷◌, ◌++◌, length, take, drop, sym, refl, ap, ◌∙◌, subst, add-zero, zero-add, arith, take-add}
+use Rattle.std.proofs.Common.{◌≡◌, ℕ, suc, ◌+◌, ◌-◌, ◌<◌, ◌≤◌, min, List, [], ◌∷◌, ◌++◌, length, take, drop, sym, refl, ap, ◌∙◌, subst, add-zero, arith}
 use borrow.Rule.Slice.PartMut.{put_mid}
-use Rattle.std.proofs.lemmas.List.{append_assoc, drop_all, drop-append-le, drop_at, drop-drop, length-append, length-drop, length-take, length-take-le, take_all, take-append-drop, take_at, take_rest, same_lists, places}
+use Rattle.std.proofs.lemmas.List.{drop_all, drop_at, drop-drop, length-append, length-drop, length-take, length-take-le, take_all, take-append-drop, take_at, take_rest, same_lists, places}
 use Rattle.line.specs.Rules.{State, Within, Opens, Wrote, Read, Flushed}
 use Rattle.transfer.specs.Runs.{Ran, Received, write, flush, took, done}
 use Rattle.transfer.specs.Rounds.{Rounds, Advanced, Carried}
@@ -19,11 +19,7 @@ placed :
     (into q part : List ℕ) (got end n : ℕ) → end ≤ length into → got ≤ end → n ≤ end - got → part ≡ take n q ++ drop n (take (end - got) (drop got into))
     → put_mid got (end - got) into part ≡ take got into ++ (take n q ++ drop (got + n) into)
 placed into q part got end n a b l e =
-    let x = drop got into in
-    let k = end - got in
-    let long : n ≤ length (take k x) = simp (length-take, length-drop) (omega arith) in
-    let rest : drop n (take k x) ++ drop k x ≡ drop (got + n) into = sym (drop-append-le n (take k x) (drop k x) long) ∙ ap (drop n) (take-append-drop k x) ∙ drop-drop n got into in
-    ap (λ z. take got into ++ (z ++ drop k x)) e ∙ ap (λ z. take got into ++ z) (append_assoc (take n q) (drop n (take k x)) (drop k x) ∙ ap (λ z. take n q ++ z) rest)
+    same_lists _ _ (grind (arith, places)) (λ i d h. grind (arith, places))
 
 -- a write and a flush, and then a read, are a round
 pub advanced :
@@ -52,28 +48,14 @@ advanced bytes into part sent got taken n s o t a b w l r =
 
 -- what is queued goes on with what is taken
 queue_on : (bytes : List ℕ) (sent got taken : ℕ) → got ≤ sent → sent ≤ length bytes → drop got (take sent bytes) ++ take taken (drop sent bytes) ≡ drop got (take (sent + taken) bytes)
-queue_on bytes sent got taken a b =
-    sym (drop-append-le got (take sent bytes) (take taken (drop sent bytes)) (simp length-take (omega arith))) ∙ ap (drop got) (sym (take-add sent taken bytes))
+queue_on bytes sent got taken a b = same_lists _ _ (grind (arith, places)) (λ i d h. grind (arith, places))
 
 -- what has arrived goes on with what is new
 into_on :
     (bytes into₀ into new : List ℕ) (got more : ℕ) → got ≤ length bytes → got + length new ≡ more → into ≡ take got bytes ++ drop got into₀ → new ≡ take (length new) (drop got bytes)
     → take got into ++ (new ++ drop more into) ≡ take more bytes ++ drop more into₀
 into_on bytes into₀ into new got more a e h k =
-    let long : length (take got bytes) ≡ got = length-take-le got bytes a in
-    let front : take got into ≡ take got bytes = ap (take got) h ∙ take_at (take got bytes) (drop got into₀) got long in
-    let behind : drop got into ≡ drop got into₀ = ap (drop got) h ∙ drop_at (take got bytes) (drop got into₀) got long in
-    let rest : drop more into ≡ drop more into₀ =
-    ap (λ z. drop z into) (sym e)
-    ∙ sym (drop-drop (length new) got into)
-    ∙ ap (drop (length new)) behind
-    ∙ drop-drop (length new) got into₀
-    ∙ ap (λ z. drop z into₀) e in
-    let both : take got bytes ++ new ≡ take more bytes = ap (λ z. take got bytes ++ z) k ∙ sym (take-add got (length new) bytes) ∙ ap (λ z. take z bytes) e in
-    ap (λ z. z ++ (new ++ drop more into)) front
-    ∙ sym (append_assoc (take got bytes) new (drop more into))
-    ∙ ap (λ z. z ++ drop more into) both
-    ∙ ap (λ z. take more bytes ++ z) rest
+    same_lists _ _ (grind (arith, places)) (λ i d u. grind (arith, places))
 
 -- the oldest of the bytes under way
 front_of : (bytes : List ℕ) (got sent n : ℕ) → got + n ≤ sent → take n (drop got (take sent bytes)) ≡ take n (drop got bytes)
@@ -129,38 +111,28 @@ pub record Travelling (bytes into₀ : List ℕ) (s₀ : State) (sent got rounds
   pub few : rounds ≤ got
   pub history : (n : ℕ) (t : State) → Rounds n bytes sent got s t → Rounds (rounds + n) bytes 0 0 s₀ t
 
-pub setting_out : (bytes into : List ℕ) (s : State) → s.queue ≡ [] → Travelling bytes into s 0 0 0 into s
-setting_out bytes into s e =
-    record {
-      underway = record { sent_most = omega arith; got_most = omega arith; queued = e; arrived = refl };
-      few = omega arith;
-      history = λ n t h. subst (λ (k : ℕ). Rounds k bytes 0 0 s t) (sym (zero-add n)) h;
-    }
-
 -- one round more
 pub onward :
-    {bytes into₀ into into' : List ℕ} {s₀ s t : State} {sent got sent' got' rounds : ℕ} → length bytes ≤ length into₀ → got < length bytes → Opens s.queue s.room
+    (bytes into₀ into into' : List ℕ) (s₀ s t : State) (sent got sent' got' rounds : ℕ) → length bytes ≤ length into₀ → got < length bytes → Opens s.queue s.room
     → Travelling bytes into₀ s₀ sent got rounds into s → Advanced bytes sent got sent' got' into into' s t
-    → Travelling bytes into₀ s₀ sent' got' (rounds + 1) into' t × (got < got')
-onward {bytes} {into₀} {into} {into'} {s₀} {s} {t} {sent} {got} {sent'} {got'} {rounds} a l opens w v =
+    → Travelling bytes into₀ s₀ sent' got' (rounds + 1) into' t
+onward bytes into₀ into into' s₀ s t sent got sent' got' rounds a l opens w v =
     let on = underway_more bytes into₀ into into' sent got sent' got' s t a l opens w.underway v in
     let few = w.few in
-    let further = on.1 in (
-      record {
-        underway = on.0;
-        few = omega arith;
-        history = λ n z h.
-            let rest : Rounds n bytes (sent + v.taken) (got + length v.new) t z =
-            subst (λ (k : ℕ). Rounds n bytes (sent + v.taken) k t z) v.got_is (subst (λ (k : ℕ). Rounds n bytes k got' t z) v.sent_is h) in
-            subst (λ (k : ℕ). Rounds k bytes 0 0 s₀ z) (omega arith) (w.history (suc n) z (l, v.taken, v.new, t, v.round, rest));
-      },
-      further,
-    )
+    let further = on.1 in
+    record {
+      underway = on.0;
+      few = omega arith;
+      history = λ n z h.
+          let rest : Rounds n bytes (sent + v.taken) (got + length v.new) t z =
+          subst (λ (k : ℕ). Rounds n bytes (sent + v.taken) k t z) v.got_is (subst (λ (k : ℕ). Rounds n bytes k got' t z) v.sent_is h) in
+          subst (λ (k : ℕ). Rounds k bytes 0 0 s₀ z) (omega arith) (w.history (suc n) z (l, v.taken, v.new, t, v.round, rest));
+    }
 
 -- where all have arrived, they are all there is
 pub arrived :
-    {bytes into₀ into : List ℕ} {s₀ s : State} {sent got rounds : ℕ} → length bytes ≤ got → Travelling bytes into₀ s₀ sent got rounds into s → Carried rounds bytes into₀ into s₀ s
-arrived {bytes} {into₀} {into} {s₀} {s} {sent} {got} {rounds} l w =
+    (bytes into₀ into : List ℕ) (s₀ s : State) (sent got rounds : ℕ) → length bytes ≤ got → Travelling bytes into₀ s₀ sent got rounds into s → Carried rounds bytes into₀ into s₀ s
+arrived bytes into₀ into s₀ s sent got rounds l w =
     let u = w.underway in
     let sent_most = u.sent_most in
     let got_most = u.got_most in

@@ -38,19 +38,13 @@ abbrev pub Answered : Act → Reply → State → State → Type 0
 Answered (write bytes) (took count) before after = Wrote bytes count before after
 Answered (read most) (gave bytes) before after = Received most bytes before after
 Answered flush done before after = Flushed before after
-Answered (write bytes) (gave other) before after = ⊥
-Answered (write bytes) done before after = ⊥
-Answered (read most) (took count) before after = ⊥
-Answered (read most) done before after = ⊥
-Answered flush (took count) before after = ⊥
-Answered flush (gave bytes) before after = ⊥
+Answered a r before after = ⊥
 
 -- Calls made one after another, with an answer to each.
 abbrev pub Ran : List Act → List Reply → State → State → Type 0
 Ran [] [] before after = before ≡ after
-Ran [] (r ∷ rs) before after = ⊥
-Ran (a ∷ acts) [] before after = ⊥
 Ran (a ∷ acts) (r ∷ rs) before after = (between : State) × Answered a r before between × Ran acts rs between after
+Ran acts rs before after = ⊥
 
 -- Only the first of the calls were made, and at least the last was not.
 abbrev pub Stopped : List Act → State → State → Type 0
@@ -59,20 +53,15 @@ Stopped acts before after = (made : ℕ) × (replies : List Reply) × (made ≤ 
 -- the bytes that a line took in a run, and those that it gave
 abbrev pub taken_in : Act → Reply → List ℕ
 taken_in (write bytes) (took count) = take count bytes
-taken_in (write bytes) (gave other) = []
-taken_in (write bytes) done = []
-taken_in (read most) r = []
-taken_in flush r = []
+taken_in a r = []
 
 abbrev pub taken : List Act → List Reply → List ℕ
-taken [] rs = []
-taken (a ∷ acts) [] = []
 taken (a ∷ acts) (r ∷ rs) = taken_in a r ++ taken acts rs
+taken acts rs = []
 
 abbrev pub given_in : Reply → List ℕ
-given_in (took count) = []
 given_in (gave bytes) = bytes
-given_in done = []
+given_in r = []
 
 abbrev pub given : List Reply → List ℕ
 given [] = []

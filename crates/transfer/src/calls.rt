@@ -1,12 +1,11 @@
 // Calls to a line as values, so that a whole list of them can be made.
-ghost use Rattle.line.specs.Rules.{seen};
 ghost use Rattle.transfer.specs.Runs.{Answered, Conserved, Ran, Received, Stopped, act, reply};
 ghost use Rattle.std.specs.Prelude.{◌≡◌, map, IfOk, MatchResult};
 
 use line::Line;
 use std::alloc::{AllocError, Global};
 
-#[derive(Drop)]
+#[derive(Debug, PartialEq, Eq, Drop)]
 pub enum Call {
     Write(Vec<u8>),
     // Into memory of that many bytes.
@@ -14,7 +13,7 @@ pub enum Call {
     Flush,
 }
 
-#[derive(Drop)]
+#[derive(Debug, PartialEq, Eq, Drop)]
 pub enum Answer {
     Took(usize),
     Gave(Vec<u8>),
@@ -23,7 +22,7 @@ pub enum Answer {
 
 // Reads at most `most` bytes. Where there is no memory for that many, nothing is read.
 fn receive<L: Line>(heap: Global, line: &mut L, most: usize) -> Result<Vec<u8>, AllocError>
-    ensures { MatchResult result (λ v. Received most v.items (seen L.queue L.ready L.room line.old) (seen L.queue L.ready L.room line.new)) (λ _. seen L.queue L.ready L.room line.new ≡ seen L.queue L.ready L.room line.old) }
+    ensures { MatchResult result (λ v. Received most v.items (L.state line.old) (L.state line.new)) (λ _. L.state line.new ≡ L.state line.old) }
 {
     let mut into = vec![in heap; 0; most]?;
     let given = line.read(&mut into);
@@ -33,7 +32,7 @@ fn receive<L: Line>(heap: Global, line: &mut L, most: usize) -> Result<Vec<u8>, 
 
 // Makes one call. Where there is no memory for the bytes of a read, it is not made.
 fn make<L: Line>(heap: Global, line: &mut L, call: &Call) -> Result<Answer, AllocError>
-    ensures { MatchResult result (λ a. Answered (act call.now) (reply a) (seen L.queue L.ready L.room line.old) (seen L.queue L.ready L.room line.new)) (λ _. seen L.queue L.ready L.room line.new ≡ seen L.queue L.ready L.room line.old) }
+    ensures { MatchResult result (λ a. Answered (act call.now) (reply a) (L.state line.old) (L.state line.new)) (λ _. L.state line.new ≡ L.state line.old) }
 {
     match call {
         Call::Write(bytes) => Ok(Answer::Took(line.write(bytes))),
@@ -47,13 +46,14 @@ fn make<L: Line>(heap: Global, line: &mut L, call: &Call) -> Result<Answer, Allo
 
 // Makes the calls in their order, and gives their answers. Where memory runs out, the calls from
 // some place on are not made.
+#[tactic(auto, using(crate::proofs::Conserves::ran_next))]
 pub fn converse<L: Line>(
     heap: Global,
     line: &mut L,
     calls: &[Call],
 ) -> Result<Vec<Answer>, AllocError>
-    ensures ran { MatchResult result (λ v. Ran (map act calls.now) (map reply v.items) (seen L.queue L.ready L.room line.old) (seen L.queue L.ready L.room line.new)) (λ _. Stopped (map act calls.now) (seen L.queue L.ready L.room line.old) (seen L.queue L.ready L.room line.new)) }
-    ensures conserved { IfOk result (λ v. Conserved (map act calls.now) (map reply v.items) (seen L.queue L.ready L.room line.old) (seen L.queue L.ready L.room line.new)) }
+    ensures ran { MatchResult result (λ v. Ran (map act calls.now) (map reply v.items) (L.state line.old) (L.state line.new)) (λ _. Stopped (map act calls.now) (L.state line.old) (L.state line.new)) }
+    ensures conserved { IfOk result (λ v. Conserved (map act calls.now) (map reply v.items) (L.state line.old) (L.state line.new)) }
 {
     let mut answers = Vec::with_capacity(heap, calls.len())?;
     for call in calls {

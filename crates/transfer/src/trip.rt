@@ -1,5 +1,4 @@
 // A byte string from one end of a line to the other.
-ghost use Rattle.line.specs.Rules.{seen};
 ghost use Rattle.transfer.specs.Rounds.{Advanced, Carried, carry_refusal};
 ghost use Rattle.transfer.specs.Runs.{Ran, done, flush, took, write};
 ghost use Rattle.std.specs.Result.{result_err};
@@ -8,49 +7,46 @@ ghost use Rattle.std.specs.Prelude.{◌≡◌, ◌≤◌, [], ◌∷◌, length,
 use fault::Refusal;
 use line::Line;
 
-// How many bytes the line has taken so far, and how many of them it has given.
-#[derive(Clone, Copy)]
-struct Trip {
-    sent: usize,
-    got: usize,
-}
-
 // Writes bytes and flushes, also where none of them was taken; answers how many were.
 fn send<L: Line>(line: &mut L, bytes: &[u8]) -> usize
-    ensures { Ran (write bytes.now ∷ flush ∷ []) (took result ∷ done ∷ []) (seen L.queue L.ready L.room line.old) (seen L.queue L.ready L.room line.new) }
+    ensures { Ran (write bytes.now ∷ flush ∷ []) (took result ∷ done ∷ []) (L.state line.old) (L.state line.new) }
 {
     let taken = line.write(bytes);
     line.flush();
     taken
 }
 
-// One round: writes what is not yet taken, flushes, and reads what has not yet arrived.
-fn round<L: Line>(line: &mut L, bytes: &[u8], into: &mut [u8], trip: Trip) -> Trip
-    requires sent { trip.sent ≤ length bytes.now }
-    requires got { trip.got ≤ length bytes.now }
-    requires memory { length bytes.now ≤ length into.old }
-    ensures { Advanced bytes.now trip.sent trip.got result.sent result.got into.old into.new (seen L.queue L.ready L.room line.old) (seen L.queue L.ready L.room line.new) }
-{
-    let Trip { sent, got } = trip;
-    let end = bytes.len();
-    let taken = send(line, &bytes[sent..]);
-    let given = line.read(&mut into[got..end]);
-    Trip {
-        sent: sent + taken,
-        got: got + given,
+// How many bytes the line has taken so far, and how many of them it has given.
+#[derive(Drop)]
+struct Trip {
+    sent: usize,
+    got: usize,
+}
+
+impl Trip {
+    // One round: writes what is not yet taken, flushes, and reads what has not yet arrived.
+    #[tactic(auto, using(crate::proofs::Travels::advanced))]
+    fn go_on<L: Line>(&mut self, line: &mut L, bytes: &[u8], into: &mut [u8])
+        requires sent { self.old.sent ≤ length bytes.now }
+        requires got { self.old.got ≤ length bytes.now }
+        requires memory { length bytes.now ≤ length into.old }
+        ensures { Advanced bytes.now self.old.sent self.old.got self.new.sent self.new.got into.old into.new (L.state line.old) (L.state line.new) }
+    {
+        self.sent += send(line, &bytes[self.sent..]);
+        self.got += line.read(&mut into[self.got..bytes.len()]);
     }
 }
 
 // Makes rounds until all of the bytes have arrived, and answers how many.
 fn travel<L: Line>(line: &mut L, bytes: &[u8], into: &mut [u8]) -> usize
     requires memory { length bytes.now ≤ length into.old }
-    requires idle { length (L.queue line.old) ≡ 0 }
-    ensures { Carried result bytes.now into.old into.new (seen L.queue L.ready L.room line.old) (seen L.queue L.ready L.room line.new) }
+    requires idle { length (L.state line.old).queue ≡ 0 }
+    ensures { Carried result bytes.now into.old into.new (L.state line.old) (L.state line.new) }
 {
     let mut trip = Trip { sent: 0, got: 0 };
     let mut rounds = 0;
     while trip.got < bytes.len() {
-        trip = round(line, bytes, into, trip);
+        trip.go_on(line, bytes, into);
         rounds += 1;
     }
     rounds
@@ -58,8 +54,8 @@ fn travel<L: Line>(line: &mut L, bytes: &[u8], into: &mut [u8]) -> usize
 
 // Carries `bytes` over a line that is empty to the start of `into`, and answers in how many rounds.
 pub fn carry<L: Line>(line: &mut L, bytes: &[u8], into: &mut [u8]) -> Result<usize, Refusal>
-    ensures refused { result_err result ≡ carry_refusal bytes.now into.old (L.queue line.old) }
-    ensures cases { MatchResult result (λ rounds. Carried rounds bytes.now into.old into.new (seen L.queue L.ready L.room line.old) (seen L.queue L.ready L.room line.new)) (λ _. (into.new ≡ into.old) × (line.new ≡ line.old)) }
+    ensures refused { result_err result ≡ carry_refusal bytes.now into.old (L.state line.old).queue }
+    ensures cases { MatchResult result (λ rounds. Carried rounds bytes.now into.old into.new (L.state line.old) (L.state line.new)) (λ _. (into.new ≡ into.old) × (line.new ≡ line.old)) }
 {
     if into.len() < bytes.len() {
         return Err(Refusal::Memory);

@@ -1,10 +1,11 @@
 // What a batch does.
-ghost use Rattle.line.specs.Batches.{Offered, Pushed, batch_opens, batch_within, batch_state, held_few, held_by};
-ghost use Rattle.line.specs.Rules.{Flushed, Read, Wrote, seen, told};
-ghost use Rattle.std.specs.Prelude.{◌≡◌, ◌+◌, ◌-◌, ◌≤◌, [], ◌++◌, length, take, drop};
+ghost use Rattle.line.specs.Batches.{Offered, Pushed, batch_opens, batch_within, batch_state, held_by};
+ghost use Rattle.line.specs.Rules.{Flushed, Read, Wrote};
+ghost use Rattle.std.specs.Prelude.{◌≡◌, ◌≤◌, [], ◌++◌, length, take};
 
-use super::{Batch, MOST};
+use super::Batch;
 use crate::lines::Line;
+use arrayvec::ArrayVec;
 
 impl<L: Line> Batch<L> {
     // A batch that holds nothing yet.
@@ -14,59 +15,31 @@ impl<L: Line> Batch<L> {
     {
         Batch {
             below,
-            held: [0; MOST],
-            count: 0,
+            held: ArrayVec::new(),
         }
-    }
-
-    // Holds bytes behind those that are held, and so behind all that is queued.
-    fn hold(&mut self, bytes: &[u8])
-        requires { self.old.count + length bytes.now ≤ 32 }
-        ensures held { held_by self.new ≡ held_by self.old ++ bytes.now }
-        ensures queue { (batch_state (seen L.queue L.ready L.room) self.new).queue ≡ (batch_state (seen L.queue L.ready L.room) self.old).queue ++ bytes.now }
-        ensures below { self.new.below ≡ self.old.below }
-    {
-        let end = self.count + bytes.len();
-        self.held[self.count..end].copy_from_slice(bytes);
-        self.count = end;
     }
 
     // Offers the held bytes below. The queue stays the same, and where there is one, the line below
     // has some of it.
     fn offer(&mut self)
-        ensures offered { Offered (held_by self.old) (seen L.queue L.ready L.room self.old.below) (held_by self.new) (seen L.queue L.ready L.room self.new.below) }
-        ensures queue { (batch_state (seen L.queue L.ready L.room) self.new).queue ≡ (batch_state (seen L.queue L.ready L.room) self.old).queue }
-        ensures some { 1 ≤ length (batch_state (seen L.queue L.ready L.room) self.old).queue → 1 ≤ length (L.queue self.new.below) }
+        ensures offered { Offered (held_by self.old) (L.state self.old.below) (held_by self.new) (L.state self.new.below) }
+        ensures queue { (batch_state L.state self.new).queue ≡ (batch_state L.state self.old).queue }
+        ensures some { 1 ≤ length (batch_state L.state self.old).queue → 1 ≤ length (L.state self.new.below).queue }
     {
-        let taken = self.below.write(&self.held[..self.count]);
-        self.held = moved_up(&self.held, taken, self.count);
-        self.count -= taken;
+        let taken = self.below.write(&self.held);
+        self.held.drain(..taken);
     }
 }
 
-// An array that begins with the bytes `from..to` of `held`.
-fn moved_up(held: &[u8], from: usize, to: usize) -> [u8; MOST]
-    requires { (from ≤ to) × ((to ≤ length held.now) × (to ≤ 32)) }
-    ensures { take (to - from) result ≡ take (to - from) (drop from held.now) }
-{
-    let mut kept = [0; MOST];
-    kept[0..to - from].copy_from_slice(&held[from..to]);
-    kept
-}
-
 impl<L: Line> Line for Batch<L> {
-    ghost queue = { λ s. (batch_state (seen L.Line.queue L.Line.ready L.Line.room) s).queue };
+    ghost state = { batch_state L.state };
 
-    ghost ready = { λ s. (batch_state (seen L.Line.queue L.Line.ready L.Line.room) s).ready };
+    ghost within = { λ s. batch_within (L.state s.below) (held_by s) (L.within s.below) };
 
-    ghost room = { λ s. (batch_state (seen L.Line.queue L.Line.ready L.Line.room) s).room };
-
-    ghost within = { λ s. batch_within (seen L.Line.queue L.Line.ready L.Line.room s.below) (held_by s) (L.Line.within s.below) };
-
-    ghost opens = { λ s. batch_opens (seen L.Line.queue L.Line.ready L.Line.room s.below) (held_by s) (held_few s) };
+    ghost opens = { λ s. batch_opens (L.state s.below) (held_by s) };
 
     fn queued(&self) -> usize {
-        self.below.queued().saturating_add(self.count)
+        self.below.queued().saturating_add(self.held.len())
     }
 
     fn readable(&self) -> usize {
@@ -74,22 +47,22 @@ impl<L: Line> Line for Batch<L> {
     }
 
     fn free(&self) -> usize {
-        MOST - self.count
+        self.held.remaining_capacity()
     }
 
     fn write(&mut self, bytes: &[u8]) -> usize
-        ensures line { Wrote bytes.now result (batch_state (seen L.Line.queue L.Line.ready L.Line.room) self.old) (batch_state (seen L.Line.queue L.Line.ready L.Line.room) self.new) }
+        ensures line { Wrote bytes.now result (batch_state L.state self.old) (batch_state L.state self.new) }
         ensures held { held_by self.new ≡ held_by self.old ++ take result bytes.now }
         ensures below { self.new.below ≡ self.old.below }
     {
-        let taken = bytes.len().min(self.free());
-        self.hold(&bytes[0..taken]);
+        let taken = bytes.len().min(self.held.remaining_capacity());
+        self.held.try_extend_from_slice(&bytes[..taken]).unwrap();
         taken
     }
 
     fn read(&mut self, into: &mut [u8]) -> usize
-        ensures line { Read into.old result into.new (batch_state (seen L.Line.queue L.Line.ready L.Line.room) self.old) (batch_state (seen L.Line.queue L.Line.ready L.Line.room) self.new) }
-        ensures below { Read into.old result into.new (seen L.Line.queue L.Line.ready L.Line.room self.old.below) (seen L.Line.queue L.Line.ready L.Line.room self.new.below) }
+        ensures line { Read into.old result into.new (batch_state L.state self.old) (batch_state L.state self.new) }
+        ensures below { Read into.old result into.new (L.state self.old.below) (L.state self.new.below) }
         ensures held { held_by self.new ≡ held_by self.old }
     {
         self.below.read(into)
@@ -97,8 +70,8 @@ impl<L: Line> Line for Batch<L> {
 
     // Also where nothing is held: the line below may hold bytes of its own.
     fn flush(&mut self)
-        ensures line { Flushed (batch_state (seen L.Line.queue L.Line.ready L.Line.room) self.old) (batch_state (seen L.Line.queue L.Line.ready L.Line.room) self.new) }
-        ensures pushed { Pushed (held_by self.old) (seen L.Line.queue L.Line.ready L.Line.room self.old.below) (held_by self.new) (seen L.Line.queue L.Line.ready L.Line.room self.new.below) }
+        ensures line { Flushed (batch_state L.state self.old) (batch_state L.state self.new) }
+        ensures pushed { Pushed (held_by self.old) (L.state self.old.below) (held_by self.new) (L.state self.new.below) }
     {
         self.offer();
         self.below.flush();

@@ -1,9 +1,9 @@
 // What a ring does.
-ghost use Rattle.line.specs.Queues.{Extended, around, place_behind, ring_size};
+ghost use Rattle.line.specs.Queues.{Extended, place_behind, ring_size};
 ghost use Rattle.line.specs.Rings.{ring_opens, ring_within, ring_of, ring_state, size_of};
-ghost use Rattle.line.specs.Rules.{Flushed, Read, Wrote, seen, told};
+ghost use Rattle.line.specs.Rules.{Flushed, Read, Wrote};
 ghost use Rattle.fault.specs.declared.Refusal.TheVariants.{Memory};
-ghost use Rattle.std.specs.Prelude.{◌≡◌, ◌+◌, ◌-◌, ◌<◌, ◌≤◌, [], ◌++◌, length, take, drop, is_ok, vec_len, MatchResult};
+ghost use Rattle.std.specs.Prelude.{◌≡◌, ◌+◌, ◌<◌, ◌≤◌, [], ◌++◌, length, take, drop, is_ok, vec_len, MatchResult};
 
 use super::Ring;
 use crate::lines::Line;
@@ -18,7 +18,7 @@ impl Ring {
         ensures test { is_ok result ≡ ring_size (vec_len memory) }
         ensures cases { MatchResult result (λ s. ring_state s ≡ ring_of (vec_len memory) []) (λ e. (e.refusal ≡ Memory) × (e.value ≡ memory)) }
     {
-        if memory.len() < 1 || memory.len() > Self::MOST {
+        if !(1..=Self::MOST).contains(&memory.len()) {
             return Err(Rejected {
                 refusal: Refusal::Memory,
                 value: memory,
@@ -32,81 +32,65 @@ impl Ring {
     }
 
     // The place `by` bytes behind the head, going round at the memory's end.
+    #[tactic(auto, using(crate::proofs::Around::place_is))]
     fn place(&self, by: usize) -> usize
         requires { by ≤ vec_len self.now.memory }
         ensures { result ≡ place_behind (vec_len self.now.memory) self.now.head by }
     {
-        let to = self.head + by;
-        if to < self.memory.len() {
-            return to;
-        }
-        to - self.memory.len()
+        (self.head + by) % self.memory.len()
     }
 
     // Puts bytes behind those that are queued.
     fn append(&mut self, bytes: &[u8])
         requires { self.old.used + length bytes.now ≤ vec_len self.old.memory }
-        ensures queue { (ring_state self.new).queue ≡ (ring_state self.old).queue ++ bytes.now }
-        ensures used { self.new.used ≡ self.old.used + length bytes.now }
-        ensures size { size_of self.new ≡ size_of self.old }
+        ensures { ring_state self.new ≡ ring_of (size_of self.old) ((ring_state self.old).queue ++ bytes.now) }
     {
         let tail = self.place(self.used);
         store(&mut self.memory, tail, bytes);
         self.used += bytes.len();
     }
 
-    // The oldest bytes, as many as `into` has room for.
+    // The oldest bytes, as many as `into` has room for, in two runs: up to the memory's end, and
+    // from its start.
     fn copy_to(&self, into: &mut [u8])
         requires { length into.old ≤ self.now.used }
         ensures { into.new ≡ take (length into.old) (ring_state self.now).queue }
     {
-        load(&self.memory, self.head, into);
+        let run = into.len().min(self.memory.len() - self.head);
+        let (first, rest) = into.split_at_mut(run);
+        first.copy_from_slice(&self.memory[self.head..self.head + run]);
+        rest.copy_from_slice(&self.memory[..rest.len()]);
     }
 
     // Lets the oldest bytes go.
+    #[tactic(auto, using(crate::proofs::Around::around_rest))]
     fn skip(&mut self, count: usize)
         requires { count ≤ self.old.used }
-        ensures queue { (ring_state self.new).queue ≡ drop count (ring_state self.old).queue }
-        ensures size { size_of self.new ≡ size_of self.old }
+        ensures { ring_state self.new ≡ ring_of (size_of self.old) (drop count (ring_state self.old).queue) }
     {
         self.head = self.place(count);
         self.used -= count;
     }
 }
 
-// Copies `bytes` into the memory from `at` on, in two runs: up to the memory's end, and from its
-// start.
+// Copies `bytes` into the memory from `at` on, in the same two runs.
+#[tactic(auto, using(crate::proofs::Around::stored))]
 fn store(memory: &mut [u8], at: usize, bytes: &[u8])
     requires { (at < length memory.old) × (length bytes.now ≤ length memory.old) }
     ensures { Extended memory.old at bytes.now memory.new }
 {
-    let count = bytes.len();
-    let run = count.min(memory.len() - at);
-    memory[at..at + run].copy_from_slice(&bytes[0..run]);
-    memory[0..count - run].copy_from_slice(&bytes[run..count]);
-}
-
-// Copies the bytes of the memory from `at` on, in the same two runs.
-fn load(memory: &[u8], at: usize, into: &mut [u8])
-    requires { (at < length memory.now) × (length into.old ≤ length memory.now) }
-    ensures { into.new ≡ around memory.now at (length into.old) }
-{
-    let count = into.len();
-    let run = count.min(memory.len() - at);
-    into[0..run].copy_from_slice(&memory[at..at + run]);
-    into[run..count].copy_from_slice(&memory[0..count - run]);
+    let run = bytes.len().min(memory.len() - at);
+    let (first, rest) = bytes.split_at(run);
+    memory[at..at + run].copy_from_slice(first);
+    memory[..rest.len()].copy_from_slice(rest);
 }
 
 impl Line for Ring {
-    ghost queue = { λ s. (ring_state s).queue };
+    ghost state = { ring_state };
 
-    ghost ready = { λ s. (ring_state s).ready };
+    ghost within = { ring_within };
 
-    ghost room = { λ s. (ring_state s).room };
-
-    ghost within = { λ s. ring_within s };
-
-    ghost opens = { λ s. ring_opens s };
+    ghost opens = { ring_opens };
 
     fn queued(&self) -> usize {
         self.readable()
@@ -125,7 +109,7 @@ impl Line for Ring {
         ensures size { size_of self.new ≡ size_of self.old }
     {
         let taken = bytes.len().min(self.free());
-        self.append(&bytes[0..taken]);
+        self.append(&bytes[..taken]);
         taken
     }
 
@@ -134,7 +118,7 @@ impl Line for Ring {
         ensures size { size_of self.new ≡ size_of self.old }
     {
         let given = into.len().min(self.used);
-        self.copy_to(&mut into[0..given]);
+        self.copy_to(&mut into[..given]);
         self.skip(given);
         given
     }

@@ -1,21 +1,9 @@
 use Rattle.std.proofs.Common.{arith}
-use Rattle.std.proofs.lemmas.List.{nil_from_length}
-use Rattle.line.specs.Rules.{seen}
-use Rattle.transfer.proofs.Travels.{setting_out, onward, arrived}
+use Rattle.transfer.proofs.Travels.{onward, arrived}
 use Rattle.transfer.proofs.trip.travel.Goals as goal
 
-pub loop-trip-init : goal.loop-trip-init
-loop-trip-init g c =
-    let state = seen g.L.Line.queue g.L.Line.ready g.L.Line.room in
-    setting_out c.args.bytes.now c.args.into.now (state c.args.line.now) (nil_from_length (g.L.Line.queue c.args.line.now) c.requires.idle)
-
-pub loop-trip-smaller : goal.loop-trip-smaller
-loop-trip-smaller g c =
-    let further = (onward (omega arith) (omega arith) (g.L.Line.opens c.loop-trip.line) c.loop-trip.invariant c.round-trip.ensures).1 in
-    omega arith
-
 pub loop-trip-preserved : goal.loop-trip-preserved
-loop-trip-preserved g c = (onward (omega arith) (omega arith) (g.L.Line.opens c.loop-trip.line) c.loop-trip.invariant c.round-trip.ensures).0
+loop-trip-preserved g c = onward _ _ _ _ _ _ _ _ _ _ _ _ (omega arith) (omega arith) (g.met.L.Line.opens c.loop-trip.line) c.loop-trip.invariant c.go_on.ensures
 
 pub returns : goal.returns
-returns g c = arrived (omega arith) c.loop-trip.invariant
+returns g c = arrived _ _ _ _ _ _ _ _ (omega arith) c.loop-trip.invariant

@@ -1,11 +1,10 @@
 use Rattle.std.proofs.Common.{◌-◌, length}
-use Rattle.line.specs.Rules.{seen}
 use Rattle.transfer.proofs.Travels.{Travelling}
 use Rattle.transfer.proofs.trip.travel.Given as goal
 
 abbrev pub invariant-loop-trip : goal.invariant-loop-trip
 invariant-loop-trip g l =
-    let state = seen g.L.Line.queue g.L.Line.ready g.L.Line.room in
+    let state = g.L.Line.state in
     Travelling l.bytes l.initial.into (state l.initial.line) l.trip.sent l.trip.got l.rounds l.into (state l.line)
 
 abbrev pub decreases-loop-trip : goal.decreases-loop-trip
