@@ -1,54 +1,45 @@
 // A reply in the console's words.
-ghost use Rattle.session.specs.Replies.{spoken, words_of};
-ghost use Rattle.std.specs.Prelude.{◌≡◌, IfOk, string_bytes};
+ghost use Rattle.notation.specs.Writes.{Writes};
+ghost use Rattle.session.specs.Replies.{spoken};
+ghost use Rattle.std.specs.Prelude.{Some};
 
 use super::Reply;
-use notation::{hex, number};
+use notation::HexText;
 use std::alloc::{AllocError, Global};
+use std::fmt;
 use transfer::Answer;
 
-// An answer in words.
-fn words(heap: Global, answer: &Answer) -> Result<String, AllocError>
-    ensures { IfOk result (λ s. string_bytes s ≡ words_of answer.now) }
-{
-    match answer {
-        Answer::Took(count) => {
-            let count = number(heap, *count)?;
-            format!(in heap; "took {count}")
+impl fmt::Display for Reply {
+    ghost output = { λ r. Some (spoken r) };
+
+    #[tactic(auto, using(notation::proofs::Printed::printed_decimal))]
+    fn fmt<W: fmt::Write>(&self, f: &mut fmt::Formatter<W>) -> fmt::Result {
+        match self {
+            &Reply::Made(Answer::Took(count)) => write!(f, "took {count}"),
+            Reply::Made(Answer::Gave(bytes)) => write!(f, "got {}", HexText(bytes)),
+            Reply::Made(Answer::Done) => f.write_str("flushed"),
+            &Reply::Queued {
+                queued,
+                readable,
+                free,
+            } => write!(f, "queued {queued} readable {readable} free {free}"),
+            Reply::Carried { rounds, bytes } => {
+                let rounds = *rounds;
+                write!(
+                    f,
+                    "carried {} in {rounds} rounds {}",
+                    bytes.len(),
+                    HexText(bytes)
+                )
+            }
+            Reply::Refused(refusal) => write!(f, "refused {}", refusal.number()),
         }
-        Answer::Gave(bytes) => {
-            let bytes = hex(heap, bytes)?;
-            format!(in heap; "got {bytes}")
-        }
-        Answer::Done => String::from_str(heap, "flushed"),
     }
 }
 
 // A reply in words.
 pub fn say(heap: Global, reply: &Reply) -> Result<String, AllocError>
-    ensures { IfOk result (λ s. string_bytes s ≡ spoken reply.now) }
+    ensures { Writes result (spoken reply.now) }
 {
-    match reply {
-        Reply::Made(answer) => words(heap, answer),
-        Reply::Queued {
-            queued,
-            readable,
-            free,
-        } => {
-            let queued = number(heap, *queued)?;
-            let readable = number(heap, *readable)?;
-            let free = number(heap, *free)?;
-            format!(in heap; "queued {queued} readable {readable} free {free}")
-        }
-        Reply::Carried { rounds, bytes } => {
-            let count = number(heap, bytes.len())?;
-            let rounds = number(heap, *rounds)?;
-            let bytes = hex(heap, bytes)?;
-            format!(in heap; "carried {count} in {rounds} rounds {bytes}")
-        }
-        Reply::Refused(refusal) => {
-            let number = number(heap, refusal.number() as usize)?;
-            format!(in heap; "refused {number}")
-        }
-    }
+    reply.to_string(heap)
 }
