@@ -1,5 +1,7 @@
 // Lines of input, as bytes. Of a line that is too long only the start is kept, so that memory and
 // work stay bounded whatever comes in.
+ghost use Rattle.std.specs.Prelude.{All, IfOk, IfSome, ◌≢◌};
+
 use std::alloc::Global;
 use std::io;
 use std::io::{BufRead, BufReader, Read};
@@ -25,15 +27,18 @@ impl Input {
 
     // The next line without its end, or `None` at the end of the input; the last line may lack its end.
     // Of a line that is too long one byte more than the longest is kept, and the rest is passed over.
-    pub(crate) fn next(&mut self) -> io::Result<Option<&[u8]>> {
+    pub(crate) fn next(&mut self) -> io::Result<Option<&[u8]>>
+        ensures { IfOk result (λ next. IfSome next (λ line. All (λ b. b ≢ 10) line.now)) }
+    {
         self.line.clear();
         let mut start = self.reader.by_ref().take(LONGEST as u64 + 1);
         if start.read_until(b'\n', &mut self.line)? == 0 {
             return Ok(None);
         }
-        if self.line.last() == Some(&b'\n') {
-            self.line.pop();
-        } else if self.line.len() > LONGEST {
+        if let Some(line) = self.line.strip_suffix(b"\n") {
+            return Ok(Some(line));
+        }
+        if self.line.len() > LONGEST {
             self.reader.skip_until(b'\n')?;
         }
         Ok(Some(&self.line))
