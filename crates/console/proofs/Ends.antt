@@ -1,5 +1,5 @@
 -- A text that has no line end before its last byte, nor there, has none.
-use Rattle.std.proofs.Common.{◌≡◌, ℕ, suc, ◌+◌, ◌-◌, ◌<◌, ◌≤◌, false, List, [], ◌∷◌, All, ◌≢◌, length, get_or, take, drop, drop-cons, ap, sym, ◌∙◌, subst, arith}
+use Rattle.std.proofs.Common.{◌≡◌, ℕ, suc, ◌+◌, ◌-◌, ◌<◌, false, List, [], ◌∷◌, All, ◌≢◌, length, get_or, drop, drop-cons, ap, ◌∙◌, subst, arith}
 use lib.Dec.{eqb}
 use lib.Pointwise.{pointwise}
 use Rattle.std.proofs.lemmas.Bool.Decides.{nat_tests}

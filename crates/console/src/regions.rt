@@ -2,6 +2,8 @@
 ghost use Rattle.console.specs.Kept.{Changed, region_named, replaced};
 ghost use Rattle.region.specs.Held.{held};
 ghost use Rattle.session.specs.Boxes.{boxes_words};
+ghost use Rattle.console.specs.Lent.{LendsNamed};
+ghost use Rattle.std.specs.Borrow.{sem};
 ghost use Rattle.std.specs.Prelude.{◌≡◌, [], IfOk, string_bytes};
 
 use command::{Change, Name};
@@ -37,17 +39,17 @@ impl Regions {
         ensures words { IfOk result (λ s. string_bytes s ≡ boxes_words (held (region_named name self.new))) }
     {
         let region = self.changed(name, change);
-        self.replace(name, region);
+        *self.named_mut(name) = region;
         say_boxes(heap, region.boxes())
     }
 
     // The other region stays.
-    fn replace(&mut self, name: Name, region: Region)
-        ensures { self.new ≡ replaced name region self.old }
+    fn named_mut(&mut self, name: Name) -> &mut Region
+        ensures* { sem 𝓛 (LendsNamed self.entry name result) }
     {
         match name {
-            Name::A => self.a = region,
-            Name::B => self.b = region,
+            Name::A => &mut self.a,
+            Name::B => &mut self.b,
         }
     }
 
