@@ -1,9 +1,9 @@
 // The regions that commands are about: empty at first.
 ghost use Rattle.console.specs.Kept.{Changed, region_named, replaced};
+ghost use Rattle.console.specs.Lent.{LendsNamed};
 ghost use Rattle.notation.specs.Writes.{Writes};
 ghost use Rattle.region.specs.Held.{held};
 ghost use Rattle.session.specs.Boxes.{boxes_words};
-ghost use Rattle.console.specs.Lent.{LendsNamed};
 ghost use Rattle.std.specs.Borrow.{sem};
 ghost use Rattle.std.specs.Prelude.{◌≡◌, []};
 
@@ -39,12 +39,11 @@ impl Regions {
         ensures other { self.new ≡ replaced name (region_named name self.new) self.old }
         ensures words { Writes result (boxes_words (held (region_named name self.new))) }
     {
-        let region = self.changed(name, change);
-        *self.named_mut(name) = region;
-        say_boxes(heap, region.boxes())
+        *self.named_mut(name) = self.changed(name, change);
+        say_boxes(heap, self.named(name).boxes())
     }
 
-    // The other region stays.
+    // To change the region of that name; the other stays.
     fn named_mut(&mut self, name: Name) -> &mut Region
         ensures* { sem 𝓛 (LendsNamed self.entry name result) }
     {
