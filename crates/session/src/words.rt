@@ -24,13 +24,9 @@ impl fmt::Display for Reply {
                 free,
             } => write!(f, "queued {queued} readable {readable} free {free}"),
             Reply::Carried { rounds, bytes } => {
-                let rounds = *rounds;
-                write!(
-                    f,
-                    "carried {} in {rounds} rounds {}",
-                    bytes.len(),
-                    HexText(bytes)
-                )
+                let (count, rounds) = (bytes.len(), *rounds);
+                let bytes = HexText(bytes);
+                write!(f, "carried {count} in {rounds} rounds {bytes}")
             }
             Reply::Refused(refusal) => write!(f, "refused {}", refusal.number()),
         }
