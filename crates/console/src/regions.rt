@@ -1,8 +1,11 @@
 // The regions that commands are about: empty at first.
 ghost use Rattle.console.specs.Kept.{Changed, region_named, replaced};
+ghost use Rattle.console.specs.Lent.{LendsNamed};
+ghost use Rattle.notation.specs.Writes.{Writes};
 ghost use Rattle.region.specs.Held.{held};
 ghost use Rattle.session.specs.Boxes.{boxes_words};
-ghost use Rattle.std.specs.Prelude.{◌≡◌, [], IfOk, string_bytes};
+ghost use Rattle.std.specs.Borrow.{sem};
+ghost use Rattle.std.specs.Prelude.{◌≡◌, []};
 
 use command::{Change, Name};
 use region::Region;
@@ -34,20 +37,19 @@ impl Regions {
     ) -> Result<String, AllocError>
         ensures changed { Changed change name self.old (region_named name self.new) }
         ensures other { self.new ≡ replaced name (region_named name self.new) self.old }
-        ensures words { IfOk result (λ s. string_bytes s ≡ boxes_words (held (region_named name self.new))) }
+        ensures words { Writes result (boxes_words (held (region_named name self.new))) }
     {
-        let region = self.changed(name, change);
-        self.replace(name, region);
-        say_boxes(heap, region.boxes())
+        *self.named_mut(name) = self.changed(name, change);
+        say_boxes(heap, self.named(name).boxes())
     }
 
-    // The other region stays.
-    fn replace(&mut self, name: Name, region: Region)
-        ensures { self.new ≡ replaced name region self.old }
+    // To change the region of that name; the other stays.
+    fn named_mut(&mut self, name: Name) -> &mut Region
+        ensures* { sem 𝓛 (LendsNamed self.entry name result) }
     {
         match name {
-            Name::A => self.a = region,
-            Name::B => self.b = region,
+            Name::A => &mut self.a,
+            Name::B => &mut self.b,
         }
     }
 

@@ -17,11 +17,20 @@ impl Site {
     pub(crate) fn answer(&mut self, heap: Global, request: Request) -> Result<String, AllocError> {
         let reply = match self {
             Site::Bare => return String::from_str(heap, "no line"),
-            Site::Ring(line) => respond(heap, line, request)?,
-            Site::Batch(line) => respond(heap, line, request)?,
-            Site::Pile(line) => respond(heap, line, request)?,
+            Site::Ring(line) => respond(heap, line, request),
+            Site::Batch(line) => respond(heap, line, request),
+            Site::Pile(line) => respond(heap, line, request),
         };
-        say(heap, &reply)
+        say(heap, &reply?)
+    }
+
+    // A line of that kind.
+    fn over(ring: Ring, kind: Kind) -> Site {
+        match kind {
+            Kind::Ring => Site::Ring(ring),
+            Kind::Batch => Site::Batch(Batch::new(ring)),
+            Kind::Pile => Site::Pile(Batch::new(Batch::new(ring))),
+        }
     }
 
     // Lays a new line over a ring of `size` bytes. Where the ring is refused, the line before stays.
@@ -33,15 +42,12 @@ impl Site {
     ) -> Result<String, AllocError> {
         // One byte more than a ring takes is enough to have it refused.
         let memory = vec![in heap; 0; size.min(Ring::MOST + 1)]?;
-        let ring = match Ring::new(memory) {
-            Ok(ring) => ring,
-            Err(rejected) => return say(heap, &Reply::Refused(rejected.refusal)),
-        };
-        *self = match kind {
-            Kind::Ring => Site::Ring(ring),
-            Kind::Batch => Site::Batch(Batch::new(ring)),
-            Kind::Pile => Site::Pile(Batch::new(Batch::new(ring))),
-        };
-        String::from_str(heap, "ok")
+        match Ring::new(memory) {
+            Ok(ring) => {
+                *self = Site::over(ring, kind);
+                String::from_str(heap, "ok")
+            }
+            Err(rejected) => say(heap, &Reply::Refused(rejected.refusal)),
+        }
     }
 }

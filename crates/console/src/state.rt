@@ -22,18 +22,22 @@ impl State {
 
     // Obeys a command, and answers in words.
     pub(crate) fn answer(&mut self, heap: Global, command: Command) -> Result<String, AllocError> {
-        let request = match command {
-            Command::Line(kind, size) => return self.site.lay(heap, kind, size),
-            Command::Write(bytes) => Request::Make(Call::Write(bytes)),
-            Command::Read(most) => Request::Make(Call::Read(most)),
-            Command::Flush => Request::Make(Call::Flush),
-            Command::Queue => Request::Queue,
-            Command::Carry(bytes) => Request::Carry(bytes),
-            Command::Pixel(format, native) => return say_pixel(heap, format, native),
-            Command::Describe(format) => return say_description(heap, format),
-            Command::Recognize(bytes) => return say_format(heap, &bytes),
-        };
-        self.site.answer(heap, request)
+        match command {
+            Command::Line(kind, size) => self.site.lay(heap, kind, size),
+            Command::Write(bytes) => self.call(heap, Call::Write(bytes)),
+            Command::Read(most) => self.call(heap, Call::Read(most)),
+            Command::Flush => self.call(heap, Call::Flush),
+            Command::Queue => self.site.answer(heap, Request::Queue),
+            Command::Carry(bytes) => self.site.answer(heap, Request::Carry(bytes)),
+            Command::Pixel(format, native) => say_pixel(heap, format, native),
+            Command::Describe(format) => say_description(heap, format),
+            Command::Recognize(bytes) => say_format(heap, &bytes),
+        }
+    }
+
+    // Makes a call on the line, and answers in words.
+    fn call(&mut self, heap: Global, call: Call) -> Result<String, AllocError> {
+        self.site.answer(heap, Request::Make(call))
     }
 
     // Changes a region as it is asked, and answers its boxes in words.

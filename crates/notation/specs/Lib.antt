@@ -1,3 +1,4 @@
 pub mod Decimal
 pub mod Formats
 pub mod Hex
+pub mod Writes

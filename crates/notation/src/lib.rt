@@ -6,6 +6,9 @@ ghost use Rattle.notation.specs.Decimal.{decimal, saturated};
 ghost use Rattle.notation.specs.Formats.{name_of};
 ghost use Rattle.notation.specs.Hex.{Bytes, hex_digit, hex_pairs, hex_of};
 
+mod hex_text;
+
+pub use hex_text::HexText;
 use pixel::Format;
 use std::alloc::{AllocError, Global};
 

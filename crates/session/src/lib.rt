@@ -1,20 +1,21 @@
-// What is asked of a line, what it replies, and the reply in words.
+// What is asked of a line, and what it replies.
 #![tactic(auto)]
 
 ghost use Rattle.transfer.specs.Runs.{Answered, act, reply as told};
-ghost use Rattle.session.specs.Replies.{Responded, spoken, words_of};
-ghost use Rattle.std.specs.Prelude.{◌≡◌, IfOk, string_bytes, MatchResult};
+ghost use Rattle.session.specs.Replies.{Responded};
+ghost use Rattle.std.specs.Prelude.{◌≡◌, MatchResult};
 
 mod pixels;
 mod regions;
+mod words;
 
 use fault::Refusal;
 use line::Line;
-use notation::{hex, number};
 pub use pixels::{say_description, say_format, say_pixel};
 pub use regions::say_boxes;
 use std::alloc::{AllocError, Global};
 use transfer::{Answer, Call, carry, converse};
+pub use words::say;
 
 #[derive(Drop)]
 pub enum Request {
@@ -76,51 +77,5 @@ pub fn respond<L: Line>(heap: Global, line: &mut L, request: Request) -> Result<
             free: line.free(),
         }),
         Request::Carry(bytes) => carried(heap, line, bytes),
-    }
-}
-
-// An answer in words.
-fn words(heap: Global, answer: &Answer) -> Result<String, AllocError>
-    ensures { IfOk result (λ s. string_bytes s ≡ words_of answer.now) }
-{
-    match answer {
-        Answer::Took(count) => {
-            let count = number(heap, *count)?;
-            format!(in heap; "took {count}")
-        }
-        Answer::Gave(bytes) => {
-            let bytes = hex(heap, bytes)?;
-            format!(in heap; "got {bytes}")
-        }
-        Answer::Done => String::from_str(heap, "flushed"),
-    }
-}
-
-// A reply in words.
-pub fn say(heap: Global, reply: &Reply) -> Result<String, AllocError>
-    ensures { IfOk result (λ s. string_bytes s ≡ spoken reply.now) }
-{
-    match reply {
-        Reply::Made(answer) => words(heap, answer),
-        Reply::Queued {
-            queued,
-            readable,
-            free,
-        } => {
-            let queued = number(heap, *queued)?;
-            let readable = number(heap, *readable)?;
-            let free = number(heap, *free)?;
-            format!(in heap; "queued {queued} readable {readable} free {free}")
-        }
-        Reply::Carried { rounds, bytes } => {
-            let count = number(heap, bytes.len())?;
-            let rounds = number(heap, *rounds)?;
-            let bytes = hex(heap, bytes)?;
-            format!(in heap; "carried {count} in {rounds} rounds {bytes}")
-        }
-        Reply::Refused(refusal) => {
-            let number = number(heap, refusal.number() as usize)?;
-            format!(in heap; "refused {number}")
-        }
     }
 }

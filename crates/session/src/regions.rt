@@ -1,29 +1,53 @@
 // The boxes of a region in the console's notation.
+ghost use Rattle.notation.specs.Writes.{Writes};
 ghost use Rattle.session.specs.Boxes.{box_words, boxes_words};
-ghost use Rattle.std.specs.Prelude.{◌≡◌, IfOk, string_bytes};
+ghost use Rattle.std.specs.Prelude.{Some};
 
 use boxes::CellBox;
-use notation::number;
 use std::alloc::{AllocError, Global};
+use std::fmt;
 
 // A box behind a space: its corner, its width and its height.
-fn say_box(heap: Global, cells: &CellBox) -> Result<String, AllocError>
-    ensures { IfOk result (λ s. string_bytes s ≡ box_words cells.now) }
-{
-    let x = number(heap, cells.left as usize)?;
-    let y = number(heap, cells.top as usize)?;
-    let w = number(heap, cells.right.saturating_sub(cells.left) as usize)?;
-    let h = number(heap, cells.bottom.saturating_sub(cells.top) as usize)?;
-    format!(in heap; " {x},{y},{w},{h}")
+#[derive(Clone, Copy)]
+struct BoxText<'a>(&'a CellBox);
+
+impl fmt::Display for BoxText<'_> {
+    ghost output = { λ t. Some (box_words t.0.now) };
+
+    #[tactic(auto, using(notation::proofs::Printed::printed_decimal))]
+    fn fmt<W: fmt::Write>(&self, f: &mut fmt::Formatter<W>) -> fmt::Result {
+        let CellBox {
+            left,
+            top,
+            right,
+            bottom,
+        } = *self.0;
+        let width = right.saturating_sub(left);
+        let height = bottom.saturating_sub(top);
+        write!(f, " {left},{top},{width},{height}")
+    }
 }
 
 // How many boxes there are, and then each.
-pub fn say_boxes(heap: Global, boxes: &[CellBox]) -> Result<String, AllocError>
-    ensures { IfOk result (λ s. string_bytes s ≡ boxes_words boxes.now) }
-{
-    let mut text = number(heap, boxes.len())?;
-    for cells in boxes {
-        text.push_str(say_box(heap, cells)?.as_str())?;
+#[derive(Clone, Copy)]
+struct BoxesText<'a>(&'a [CellBox]);
+
+impl fmt::Display for BoxesText<'_> {
+    ghost output = { λ t. Some (boxes_words t.0.now) };
+
+    #[tactic(auto, using(notation::proofs::Printed::printed_decimal))]
+    fn fmt<W: fmt::Write>(&self, f: &mut fmt::Formatter<W>) -> fmt::Result {
+        write!(f, "{}", self.0.len())?;
+        for cells in self.0 {
+            write!(f, "{}", BoxText(cells))?;
+        }
+        Ok(())
     }
-    Ok(text)
+}
+
+// The boxes in words.
+pub fn say_boxes(heap: Global, boxes: &[CellBox]) -> Result<String, AllocError>
+    ensures { Writes result (boxes_words boxes.now) }
+{
+    BoxesText(boxes).to_string(heap)
 }
