@@ -86,13 +86,11 @@ fn parse_pairs(heap: Global, text: &[u8]) -> Result<Option<Vec<u8>>, AllocError>
 pub fn parse_hex(heap: Global, text: &[u8]) -> Result<Option<Vec<u8>>, AllocError>
     ensures { IfOk result (λ o. MatchOption o ((bs : List ℕ) → Bytes bs → text.now ≢ hex_of bs) (λ v. Bytes v.items × (text.now ≡ hex_of v.items))) }
 {
-    if text.is_empty() {
-        return Ok(None);
+    match text {
+        [] => Ok(None),
+        b"-" => Ok(Some(Vec::new(heap))),
+        _ => parse_pairs(heap, text),
     }
-    if is_word(text, b"-") {
-        return Ok(Some(Vec::new(heap)));
-    }
-    parse_pairs(heap, text)
 }
 
 // The number that the text writes, or `None` where no number is written so.
