@@ -5,6 +5,7 @@ use Rattle.screen.specs.declared.rect.Rect.{Rect}
 use Rattle.command.specs.Spaces.{spaced}
 use Rattle.command.specs.declared.regions.Change.{Change}
 use Rattle.command.specs.declared.regions.Change.TheVariants.{Empty, ByRect, ByRegion}
+use Rattle.command.specs.declared.regions.RegionCommand.{RegionCommand}
 use Rattle.command.specs.declared.regions.Name.{Name}
 use Rattle.command.specs.declared.regions.Name.TheVariants.{A, B}
 use Rattle.region.specs.declared.operation.Operation.{Operation}
@@ -50,3 +51,6 @@ OfRegion name rest text = text ≡ codes "region " ++ spaced (name_word name) re
 -- the text asks for this change of the region of that name
 abbrev pub SpellsRegion : Name → Change → List ℕ → Type 0
 SpellsRegion name change text = (rest : List ℕ) × OfRegion name rest text × SpellsChange change rest
+
+abbrev pub SpellsRegionCommand : RegionCommand → List ℕ → Type 0
+SpellsRegionCommand c text = SpellsRegion c.name c.change text

@@ -3,3 +3,4 @@ pub mod Changes
 pub mod Grammar
 pub mod Meaning
 pub mod Spaces
+pub mod Unspaced

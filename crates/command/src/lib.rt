@@ -3,28 +3,35 @@
 
 ghost use Rattle.command.specs.Grammar.{Spells};
 ghost use Rattle.command.specs.Meaning.{Unambiguous};
-ghost use Rattle.std.specs.Prelude.{IfOk, MatchOption};
+ghost use Rattle.command.specs.Spaces.{Reads, spaced};
+ghost use Rattle.std.specs.Prelude.{◌≢◌, IfOk, MatchOption, codes};
 
-mod lines;
-mod pixels;
 mod regions;
+mod word;
 mod words;
 
-use lines::{carry, flush, line, queue, read, write};
+use notation::parse_hex;
 use pixel::Format;
-use pixels::{describe, pixel, recognize};
 pub use region::Operation;
 pub use regions::{Change, Name, RegionCommand, parse_region};
 use std::alloc::{AllocError, Global};
+use word::Word;
+use words::{first, split_word};
 
-#[derive(Clone, Copy)]
+// At most so many bytes are read at once.
+const READ_LIMIT: usize = 65536;
+
+// How many bytes describe a format.
+const DESCRIPTION: usize = 16;
+
+#[derive(Clone, Copy, PartialEq, Eq, Hash, Debug)]
 pub enum Kind {
     Ring,
     Batch,
     Pile,
 }
 
-#[derive(Drop)]
+#[derive(Drop, PartialEq, Debug)]
 pub enum Command {
     // `line ring N`, `line batch N` or `line pile N`
     Line(Kind, usize),
@@ -44,44 +51,85 @@ pub enum Command {
     Recognize(Vec<u8>),
 }
 
-// Tries each form in turn.
-fn find(heap: Global, text: &[u8]) -> Result<Option<Command>, AllocError>
-    ensures { IfOk result (λ o. MatchOption o ((c : Command) → Spells c text.now → ⊥) (λ c. Spells c text.now)) }
-{
-    if let Some(c) = line(text) {
-        return Ok(Some(c));
-    }
-    if let Some(c) = read(text) {
-        return Ok(Some(c));
-    }
-    if let Some(c) = flush(text) {
-        return Ok(Some(c));
-    }
-    if let Some(c) = queue(text) {
-        return Ok(Some(c));
-    }
-    if let Some(c) = pixel(text) {
-        return Ok(Some(c));
-    }
-    if let Some(c) = describe(text) {
-        return Ok(Some(c));
-    }
-    if let Some(c) = write(heap, text)? {
-        return Ok(Some(c));
-    }
-    if let Some(c) = carry(heap, text)? {
-        return Ok(Some(c));
-    }
-    if let Some(c) = recognize(heap, text)? {
-        return Ok(Some(c));
-    }
-    Ok(None)
-}
-
 // The command that the text spells, or `None` where it spells none. No text spells two.
 pub fn parse(heap: Global, text: &[u8]) -> Result<Option<Command>, AllocError>
-    ensures value { IfOk result (λ o. MatchOption o ((c : Command) → Spells c text.now → ⊥) (λ c. Spells c text.now)) }
+    ensures value { IfOk result (λ o. Reads Spells o text.now) }
     ensures alone { Unambiguous }
 {
     find(heap, text)
+}
+
+// Looks at the first word. Each form but two has more behind it.
+fn find(heap: Global, text: &[u8]) -> Result<Option<Command>, AllocError>
+    ensures { IfOk result (λ o. Reads Spells o text.now) }
+{
+    let Some((word, rest)) = split_word(text) else {
+        return Ok(lone(text));
+    };
+    match word {
+        b"line" => Ok(line(rest)),
+        b"write" => write(heap, rest),
+        b"read" => Ok(read(rest)),
+        b"carry" => carry(heap, rest),
+        b"pixel" => Ok(pixel(rest)),
+        b"describe" => Ok(describe(rest)),
+        b"format" => recognize(heap, rest),
+        _ => Ok(None),
+    }
+}
+
+fn lone(text: &[u8]) -> Option<Command>
+    ensures { MatchOption result ((text.now ≢ codes "flush") × (text.now ≢ codes "queue")) (λ c. Spells c text.now) }
+{
+    match text {
+        b"flush" => Some(Command::Flush),
+        b"queue" => Some(Command::Queue),
+        _ => None,
+    }
+}
+
+fn line(text: &[u8]) -> Option<Command>
+    ensures { Reads Spells result (spaced (codes "line") text.now) }
+{
+    let (kind, rest) = first(text)?;
+    Some(Command::Line(kind, usize::from_word(rest)?))
+}
+
+fn write(heap: Global, text: &[u8]) -> Result<Option<Command>, AllocError>
+    ensures { IfOk result (λ o. Reads Spells o (spaced (codes "write") text.now)) }
+{
+    Ok(parse_hex(heap, text)?.map(Command::Write))
+}
+
+fn read(text: &[u8]) -> Option<Command>
+    ensures { Reads Spells result (spaced (codes "read") text.now) }
+{
+    let n = usize::from_word(text)?;
+    (n <= READ_LIMIT).then_some(Command::Read(n))
+}
+
+fn carry(heap: Global, text: &[u8]) -> Result<Option<Command>, AllocError>
+    ensures { IfOk result (λ o. Reads Spells o (spaced (codes "carry") text.now)) }
+{
+    Ok(parse_hex(heap, text)?.map(Command::Carry))
+}
+
+fn pixel(text: &[u8]) -> Option<Command>
+    ensures { Reads Spells result (spaced (codes "pixel") text.now) }
+{
+    let (format, rest) = first(text)?;
+    Some(Command::Pixel(format, u8::from_word(rest)?))
+}
+
+fn describe(text: &[u8]) -> Option<Command>
+    ensures { Reads Spells result (spaced (codes "describe") text.now) }
+{
+    Format::from_word(text).map(Command::Describe)
+}
+
+fn recognize(heap: Global, text: &[u8]) -> Result<Option<Command>, AllocError>
+    ensures { IfOk result (λ o. Reads Spells o (spaced (codes "format") text.now)) }
+{
+    let bytes = parse_hex(heap, text)?.filter(|bytes| bytes.len() == DESCRIPTION);
+    Ok(bytes.map(Command::Recognize))
 }

@@ -87,6 +87,10 @@ decimal_in zero zero h = (omega arith, omega arith)
 decimal_in zero (suc i) h = absurd (omega arith)
 decimal_in (suc n) i h = digit_in (digits_of 10 (suc n)) i (all_below_base_digits_of 10 (suc n) (omega arith)) (omega (arith, length-map (digits_of 10 (suc n)) (λ d. 48 + d)))
 
+-- no space stands in a number's spelling
+pub no_space : (n k : ℕ) → k < length (decimal n) → get_or (decimal n) k 0 ≡ 32 → ⊥
+no_space n k h space = let d = decimal_in n k h in omega arith
+
 pub no_digit : (text : List ℕ) (i : ℕ) → i < length text → IsNotAsciiDigit (get_or text i 0) → (n : ℕ) → text ≡ decimal n → ⊥
 no_digit text i h f n e =
     let d = decimal_in n i (omega (arith, ap length e)) in
