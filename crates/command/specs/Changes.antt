@@ -24,10 +24,6 @@ operation_word Away = codes "away"
 abbrev pub SpellsShort : ℕ → List ℕ → Type 0
 SpellsShort n text = (n < 65536) × (text ≡ decimal n)
 
--- the text is a short number, a space and the rest
-abbrev pub BeginsShort : ℕ → List ℕ → List ℕ → Type 0
-BeginsShort n rest text = (n < 65536) × (text ≡ spaced (decimal n) rest)
-
 -- each of a rectangle's numbers is short
 abbrev pub AllShort : Rect → Type 0
 AllShort rect = (rect.x < 65536) × (rect.y < 65536) × (rect.w < 65536) × (rect.h < 65536)

@@ -9,10 +9,6 @@ Unspaced word = (k : ℕ) → k < length word → slice_index word k ≢ 32
 abbrev pub spaced : List ℕ → List ℕ → List ℕ
 spaced word rest = word ++ (codes " " ++ rest)
 
--- a word that spells the value, a space and the rest
-abbrev pub Begins : {A : Type 0} → (A → List ℕ → Type 0) → A → List ℕ → List ℕ → Type 0
-Begins Spells x rest text = (word : List ℕ) × Spells x word × (text ≡ spaced word rest)
-
 -- the option has the value that the text spells, or the text spells none
 abbrev pub Reads : {A : Type 0} → (A → List ℕ → Type 0) → Option A → List ℕ → Type 0
 Reads Spells o text = MatchOption o ((x : _) → Spells x text → ⊥) (λ x. Spells x text)

@@ -19,11 +19,11 @@ use Rattle.command.specs.declared.regions.Name.TheVariants.{A, B}
 use Rattle.region.specs.declared.operation.Operation.{Operation}
 use Rattle.region.specs.declared.operation.Operation.TheVariants.{Join, Cut, Away}
 
-abbrev no_space_is : ℕ → Bool
+abbrev pub no_space_is : ℕ → Bool
 no_space_is code = not (code == 32)
 
 -- a test that computes
-tested : (word : List ℕ) → list_all no_space_is word ≡ true → (text : List ℕ) → text ≡ word → Unspaced text
+pub tested : (word : List ℕ) → list_all no_space_is word ≡ true → (text : List ℕ) → text ≡ word → Unspaced text
 tested word all text e = subst Unspaced (sym e) (λ k h space. true≢false (sym all ∙ list_all_at no_space_is word k 0 h (ap no_space_is space)))
 
 pub kind_unspaced : (kind : Kind) (text : List ℕ) → text ≡ kind_word kind → Unspaced text

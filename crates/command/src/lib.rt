@@ -51,17 +51,12 @@ pub enum Command {
     Recognize(Vec<u8>),
 }
 
-// The command that the text spells, or `None` where it spells none. No text spells two.
+// The command that the text spells, or `None` where it spells none. No text spells two. The first
+// word tells the form.
+#[tactic(auto, using(crate::proofs::Unambiguous::unambiguous))]
 pub fn parse(heap: Global, text: &[u8]) -> Result<Option<Command>, AllocError>
     ensures value { IfOk result (λ o. Reads Spells o text.now) }
     ensures alone { Unambiguous }
-{
-    find(heap, text)
-}
-
-// Looks at the first word. Each form but two has more behind it.
-fn find(heap: Global, text: &[u8]) -> Result<Option<Command>, AllocError>
-    ensures { IfOk result (λ o. Reads Spells o text.now) }
 {
     let Some((word, rest)) = split_word(text) else {
         return Ok(lone(text));
@@ -130,6 +125,8 @@ fn describe(text: &[u8]) -> Option<Command>
 fn recognize(heap: Global, text: &[u8]) -> Result<Option<Command>, AllocError>
     ensures { IfOk result (λ o. Reads Spells o (spaced (codes "format") text.now)) }
 {
-    let bytes = parse_hex(heap, text)?.filter(|bytes| bytes.len() == DESCRIPTION);
-    Ok(bytes.map(Command::Recognize))
+    let Some(bytes) = parse_hex(heap, text)? else {
+        return Ok(None);
+    };
+    Ok((bytes.len() == DESCRIPTION).then_some(Command::Recognize(bytes)))
 }

@@ -36,15 +36,10 @@ pub struct RegionCommand {
 
 // The change of a region that the text asks for, or `None` where it asks for none. No text asks for
 // two, and none that spells a command asks for one.
+#[tactic(auto, using(crate::proofs::Alone::region_alone))]
 pub fn parse_region(text: &[u8]) -> Option<RegionCommand>
     ensures value { Reads SpellsRegionCommand result text.now }
     ensures alone { RegionAlone }
-{
-    region(text)
-}
-
-fn region(text: &[u8]) -> Option<RegionCommand>
-    ensures { Reads SpellsRegionCommand result text.now }
 {
     let (name, rest) = first(text.strip_prefix(b"region ")?)?;
     Some(RegionCommand {
