@@ -1,18 +1,20 @@
 -- What is left to show where a text's first word has been read.
-use Rattle.std.proofs.Common.{◌≡◌, ℕ, ◌^◌, ◌<◌, ◌≤◌, Bool, true, false, List, ◌∷◌, ◌++◌, length, get_or, Some, None, Ok, Err, codes, eqb, leb, Option, Result, Vec, vec_items, refl, sym, ap, ◌∙◌, subst, arith, rules, MatchOption}
+use Rattle.std.proofs.Common.{◌≡◌, ℕ, ◌^◌, ◌<◌, ◌≤◌, Bool, true, false, List, ◌∷◌, length, get_or, Some, None, Ok, Err, codes, eqb, leb, Option, Result, Vec, vec_items, refl, sym, ap, ◌∙◌, subst, arith, rules, MatchOption}
 use Rattle.std.specs.Bool.{Decides, then_some}
 use Rattle.std.specs.declared.alloc.Global.{Global}
 use Rattle.std.specs.List.{list_all}
 use Rattle.std.specs.Result.{OkIff, result_ok}
 use Rattle.std.proofs.lemmas.Bool.{true≢false}
 use Rattle.std.proofs.lemmas.Bool.Decides.{Decides-eqb, nat_tests}
+use Rattle.std.proofs.lemmas.Slice.Eq.{HasBytesAt, text_from_reads}
 use Rattle.std.proofs.lemmas.List.{get_or_at, length-append}
-use Rattle.notation.specs.Decimal.{decimal, saturated}
+use Rattle.notation.specs.Decimal.{decimal}
 use Rattle.notation.specs.Hex.{Bytes, hex_of}
 use Rattle.notation.proofs.Numbers.{decimal_tells}
 use Rattle.notation.proofs.Pairs.{unhex, unhex-hex_of}
+use Rattle.command.specs.Reads.{Reads}
 use Rattle.command.specs.Grammar.{SpellsNumber, Spells, kind_word, read_limit}
-use Rattle.command.specs.Spaces.{Reads, Unspaced, spaced}
+use Rattle.command.specs.Spaces.{Unspaced, spaced}
 use Rattle.command.specs.Unspaced.{no_space_is, tested}
 use Rattle.command.specs.declared.Command.{Command}
 use Rattle.command.specs.declared.Command.TheVariants.{Line, Write, Read, Flush, Queue, Carry, Pixel, Describe, Recognize}
@@ -45,9 +47,11 @@ pub no_rest :
 no_rest Of Behind unspaced text rest x at h x' word' rest' s' e' y b =
     h y (subst (Behind y) (sym (same_rest text at.0 rest word' rest' (unspaced x at.0 at.1) at.2 (unspaced x' word' s') e')) b)
 
--- what is told of a text by its first word
-pub by_word : (P : List ℕ → Type 0) (front text word rest : List ℕ) → word ≡ front → text ≡ spaced word rest → P (spaced front rest) → P text
-by_word P front text word rest w e p = subst P (sym (e ∙ ap (λ t. spaced t rest) w)) p
+-- what is told of a text by the letters of its first word
+pub by_word :
+    (P : List ℕ → Type 0) (front text word rest : List ℕ) → length word ≡ length front → HasBytesAt word 0 front → text ≡ spaced word rest
+    → P (spaced front rest) → P text
+by_word P front text word rest size letters e p = subst P (sym (e ∙ ap (λ t. spaced t rest) (text_from_reads word front size letters))) p
 
 -- a number that is read is of fewer bits where it fits them
 pub narrow :

@@ -1,10 +1,10 @@
 -- A rectangle's numbers, each read from what stands behind the one before.
-use Rattle.std.proofs.Common.{◌≡◌, ℕ, ◌<◌, List, sym, refl, ap, ◌∙◌, arith}
-use Rattle.notation.specs.Decimal.{decimal, saturated}
+use Rattle.std.proofs.Common.{◌≡◌, ℕ, List, refl}
+use Rattle.notation.specs.Decimal.{decimal}
 use Rattle.notation.proofs.Numbers.{no_space}
 use Rattle.screen.specs.declared.rect.Rect.{Rect}
 use Rattle.command.specs.Changes.{SpellsRect, SpellsShort}
-use Rattle.command.specs.Spaces.{Unspaced, spaced}
+use Rattle.command.specs.Spaces.{spaced}
 use Rattle.command.specs.Unspaced.{number_unspaced}
 use Rattle.command.proofs.Reading.{same_rest}
 

@@ -1,9 +1,10 @@
 // The commands that the console understands, one on a line.
 #![tactic(auto)]
 
+ghost use Rattle.command.specs.Reads.{Reads};
 ghost use Rattle.command.specs.Grammar.{Spells};
 ghost use Rattle.command.specs.Meaning.{Unambiguous};
-ghost use Rattle.command.specs.Spaces.{Reads, spaced};
+ghost use Rattle.command.specs.Spaces.{spaced};
 ghost use Rattle.std.specs.Prelude.{◌≢◌, IfOk, MatchOption, codes};
 
 mod regions;
@@ -31,7 +32,7 @@ pub enum Kind {
     Pile,
 }
 
-#[derive(Drop, PartialEq, Debug)]
+#[derive(Drop, PartialEq, Eq, Debug)]
 pub enum Command {
     // `line ring N`, `line batch N` or `line pile N`
     Line(Kind, usize),
@@ -63,11 +64,11 @@ pub fn parse(heap: Global, text: &[u8]) -> Result<Option<Command>, AllocError>
     };
     match word {
         b"line" => Ok(line(rest)),
-        b"write" => write(heap, rest),
+        b"write" => Ok(parse_hex(heap, rest)?.map(Command::Write)),
         b"read" => Ok(read(rest)),
-        b"carry" => carry(heap, rest),
+        b"carry" => Ok(parse_hex(heap, rest)?.map(Command::Carry)),
         b"pixel" => Ok(pixel(rest)),
-        b"describe" => Ok(describe(rest)),
+        b"describe" => Ok(Format::from_word(rest).map(Command::Describe)),
         b"format" => recognize(heap, rest),
         _ => Ok(None),
     }
@@ -90,12 +91,6 @@ fn line(text: &[u8]) -> Option<Command>
     Some(Command::Line(kind, usize::from_word(rest)?))
 }
 
-fn write(heap: Global, text: &[u8]) -> Result<Option<Command>, AllocError>
-    ensures { IfOk result (λ o. Reads Spells o (spaced (codes "write") text.now)) }
-{
-    Ok(parse_hex(heap, text)?.map(Command::Write))
-}
-
 fn read(text: &[u8]) -> Option<Command>
     ensures { Reads Spells result (spaced (codes "read") text.now) }
 {
@@ -103,23 +98,11 @@ fn read(text: &[u8]) -> Option<Command>
     (n <= READ_LIMIT).then_some(Command::Read(n))
 }
 
-fn carry(heap: Global, text: &[u8]) -> Result<Option<Command>, AllocError>
-    ensures { IfOk result (λ o. Reads Spells o (spaced (codes "carry") text.now)) }
-{
-    Ok(parse_hex(heap, text)?.map(Command::Carry))
-}
-
 fn pixel(text: &[u8]) -> Option<Command>
     ensures { Reads Spells result (spaced (codes "pixel") text.now) }
 {
     let (format, rest) = first(text)?;
     Some(Command::Pixel(format, u8::from_word(rest)?))
-}
-
-fn describe(text: &[u8]) -> Option<Command>
-    ensures { Reads Spells result (spaced (codes "describe") text.now) }
-{
-    Format::from_word(text).map(Command::Describe)
 }
 
 fn recognize(heap: Global, text: &[u8]) -> Result<Option<Command>, AllocError>
