@@ -1,5 +1,5 @@
 -- What is left to show where a text's first word has been read.
-use Rattle.std.proofs.Common.{◌≡◌, ℕ, ◌^◌, ◌<◌, ◌≤◌, Bool, true, false, List, ◌∷◌, length, get_or, Some, None, Ok, Err, codes, eqb, leb, Option, Result, Vec, vec_items, refl, sym, ap, ◌∙◌, subst, arith, rules, MatchOption}
+use Rattle.std.proofs.Common.{◌≡◌, ℕ, ◌^◌, ◌<◌, ◌≤◌, Bool, true, false, List, length, Some, None, Ok, Err, codes, eqb, leb, Option, Result, Vec, vec_items, refl, sym, ap, ◌∙◌, subst, arith, rules, MatchOption}
 use Rattle.std.specs.Bool.{Decides, then_some}
 use Rattle.std.specs.declared.alloc.Global.{Global}
 use Rattle.std.specs.List.{list_all}
@@ -7,19 +7,18 @@ use Rattle.std.specs.Result.{OkIff, result_ok}
 use Rattle.std.proofs.lemmas.Bool.{true≢false}
 use Rattle.std.proofs.lemmas.Bool.Decides.{Decides-eqb, nat_tests}
 use Rattle.std.proofs.lemmas.Slice.Eq.{HasBytesAt, text_from_reads}
-use Rattle.std.proofs.lemmas.List.{get_or_at, length-append}
 use Rattle.notation.specs.Decimal.{decimal}
 use Rattle.notation.specs.Hex.{Bytes, hex_of}
 use Rattle.notation.proofs.Numbers.{decimal_tells}
 use Rattle.notation.proofs.Pairs.{unhex, unhex-hex_of}
-use Rattle.command.specs.Reads.{Reads}
 use Rattle.command.specs.Grammar.{SpellsNumber, Spells, kind_word, read_limit}
+use Rattle.command.specs.Reads.{Reads}
 use Rattle.command.specs.Spaces.{Unspaced, spaced}
 use Rattle.command.specs.Unspaced.{no_space_is, tested}
 use Rattle.command.specs.declared.Command.{Command}
 use Rattle.command.specs.declared.Command.TheVariants.{Line, Write, Read, Flush, Queue, Carry, Pixel, Describe, Recognize}
 use Rattle.command.specs.declared.Kind.{Kind}
-use Rattle.command.proofs.Splits.{behind_is, behind_of, word_is, word_of}
+use Rattle.command.proofs.Splits.{behind_is, behind_of, space_at, word_is, word_of}
 
 -- a part that is missing leaves nothing that is spelled
 pub missing : {X : Type 0} (o : Option X) (P : Type 0) (Q : X → Type 0) → o ≡ None → P → MatchOption o P Q
@@ -128,4 +127,4 @@ no_form text word rest u e line write read carry pixel describe format = elim [
     begun front more all f = same_word text word rest front more u e (tested front all front refl) f
 
     spaceless : (front : List ℕ) → list_all no_space_is front ≡ true → text ≡ front → ⊥
-    spaceless front all f = tested front all text f (length word) (omega (arith, ap length e ∙ length-append word (32 ∷ rest))) (ap (λ t. get_or t (length word) 0) e ∙ get_or_at word 32 rest 0 (length word) refl)
+    spaceless front all f = let at = space_at text word rest e in tested front all text f (length word) at.0 at.1

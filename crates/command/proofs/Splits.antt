@@ -29,10 +29,14 @@ behind_is (c ∷ word) rest h = rw (other c (h 0 (omega arith))) (behind_is word
 abbrev pub NoSpace : ℕ → Type 0
 NoSpace code = code ≡ 32 → ⊥
 
+-- the space behind the first word
+pub space_at : (text word rest : List ℕ) → text ≡ spaced word rest → (length word < length text) × (get_or text (length word) 0 ≡ 32)
+space_at text word rest e =
+    (omega (arith, ap length e ∙ length-append word (32 ∷ rest)), ap (λ t. get_or t (length word) 0) e ∙ get_or_at word 32 rest 0 (length word) refl)
+
 -- a text with no space has no first word
 pub no_split : (text : List ℕ) → AllWithin NoSpace text 0 (length text) → (word rest : List ℕ) → text ≡ spaced word rest → ⊥
-no_split text none word rest e =
-    none (length word) 0 (omega arith) (omega (arith, ap length e ∙ length-append word (32 ∷ rest))) (ap (λ t. get_or t (length word) 0) e ∙ get_or_at word 32 rest 0 (length word) refl)
+no_split text none word rest e = let at = space_at text word rest e in none (length word) 0 (omega arith) at.0 at.1
 
 -- a text at its first space
 pub split :

@@ -1,9 +1,9 @@
 // The commands that the console understands, one on a line.
 #![tactic(auto)]
 
-ghost use Rattle.command.specs.Reads.{Reads};
 ghost use Rattle.command.specs.Grammar.{Spells};
 ghost use Rattle.command.specs.Meaning.{Unambiguous};
+ghost use Rattle.command.specs.Reads.{Reads};
 ghost use Rattle.command.specs.Spaces.{spaced};
 ghost use Rattle.std.specs.Prelude.{◌≢◌, IfOk, MatchOption, codes};
 
@@ -52,8 +52,7 @@ pub enum Command {
     Recognize(Vec<u8>),
 }
 
-// The command that the text spells, or `None` where it spells none. No text spells two. The first
-// word tells the form.
+// The command that the text spells, or `None` where it spells none. No text spells two.
 #[tactic(auto, using(crate::proofs::Unambiguous::unambiguous))]
 pub fn parse(heap: Global, text: &[u8]) -> Result<Option<Command>, AllocError>
     ensures value { IfOk result (λ o. Reads Spells o text.now) }
@@ -74,6 +73,7 @@ pub fn parse(heap: Global, text: &[u8]) -> Result<Option<Command>, AllocError>
     }
 }
 
+// A command of one word.
 fn lone(text: &[u8]) -> Option<Command>
     ensures { MatchOption result ((text.now ≢ codes "flush") × (text.now ≢ codes "queue")) (λ c. Spells c text.now) }
 {
@@ -84,6 +84,7 @@ fn lone(text: &[u8]) -> Option<Command>
     }
 }
 
+// What stands behind `line `. The other forms have such functions too.
 fn line(text: &[u8]) -> Option<Command>
     ensures { Reads Spells result (spaced (codes "line") text.now) }
 {

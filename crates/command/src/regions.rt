@@ -1,7 +1,7 @@
 // The commands on regions, in the same manner.
-ghost use Rattle.command.specs.Reads.{Reads};
 ghost use Rattle.command.specs.Alone.{RegionAlone};
 ghost use Rattle.command.specs.Changes.{SpellsChange, SpellsRect, SpellsRegionCommand};
+ghost use Rattle.command.specs.Reads.{Reads};
 
 use super::word::Word;
 use super::words::first;

@@ -1,9 +1,9 @@
 // Values that the console writes as one word.
-ghost use Rattle.command.specs.Reads.{Reads};
-ghost use Rattle.command.specs.Unspaced.{format_unspaced, kind_unspaced, name_unspaced, number_unspaced, operation_unspaced};
 ghost use Rattle.command.specs.Changes.{SpellsShort, name_word, operation_word};
 ghost use Rattle.command.specs.Grammar.{SpellsByte, SpellsNumber, kind_word};
+ghost use Rattle.command.specs.Reads.{Reads};
 ghost use Rattle.command.specs.Spaces.{Unspaced};
+ghost use Rattle.command.specs.Unspaced.{format_unspaced, kind_unspaced, name_unspaced, number_unspaced, operation_unspaced};
 ghost use Rattle.notation.specs.Formats.{format_word};
 ghost use Rattle.std.specs.Prelude.{◌≡◌, ℕ, List};
 
