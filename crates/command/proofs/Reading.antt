@@ -3,11 +3,14 @@ use Rattle.std.proofs.Common.{◌≡◌, ℕ, ◌^◌, ◌<◌, ◌≤◌, Bool,
 use Rattle.std.specs.Bool.{Decides, then_some}
 use Rattle.std.specs.declared.alloc.Global.{Global}
 use Rattle.std.specs.List.{list_all}
+use Rattle.std.specs.Option.{IsSomeAnd}
+use Rattle.std.specs.Vec.{vec_len}
 use Rattle.std.specs.Result.{OkIff, result_ok}
 use Rattle.std.proofs.lemmas.Bool.{true≢false}
 use Rattle.std.proofs.lemmas.Bool.Decides.{Decides-eqb, nat_tests}
 use Rattle.std.proofs.lemmas.Slice.Eq.{HasBytesAt, text_from_reads}
-use Rattle.notation.specs.Decimal.{decimal}
+use Rattle.std.proofs.lemmas.Option.{MatchOption-at_none, MatchOption-at_some}
+use Rattle.notation.specs.Decimal.{decimal, saturated}
 use Rattle.notation.specs.Hex.{Bytes, hex_of}
 use Rattle.notation.proofs.Numbers.{decimal_tells}
 use Rattle.notation.proofs.Pairs.{unhex, unhex-hex_of}
@@ -62,28 +65,58 @@ narrow limit fits text m (Err e) s o = λ n t. let same : s.0 ≡ n = decimal_te
 pub no_line : (text : List ℕ) → ((kind : Kind) (n : ℕ) → text ≡ spaced (kind_word kind) (decimal n) → ⊥) → (c : Command) → Spells c (spaced (codes "line") text) → ⊥
 no_line text h = search rules
 
-pub no_read : (text : List ℕ) → ((n : ℕ) → n ≤ read_limit → text ≡ decimal n → ⊥) → (c : Command) → Spells c (spaced (codes "read") text) → ⊥
+no_read : (text : List ℕ) → ((n : ℕ) → n ≤ read_limit → text ≡ decimal n → ⊥) → (c : Command) → Spells c (spaced (codes "read") text) → ⊥
 no_read text h = search rules
 
-pub read_limited : (text : List ℕ) (m : ℕ) (fits : Bool) → fits ≡ leb m read_limit → SpellsNumber m text → Reads Spells (then_some fits (Read m)) (spaced (codes "read") text)
-read_limited text m true t s =
-    let low : m ≤ read_limit = grind (arith, nat_tests) in
-    let same : s.0 ≡ m = omega arith in
-    (low, ap (λ t. spaced (codes "read") t) (s.1 ∙ ap decimal same))
-read_limited text m false t s = no_read text (λ n low e.
-    let same : s.0 ≡ n = decimal_tells s.0 n (sym s.1 ∙ e) in
-    let high : read_limit < m = grind (arith, nat_tests) in
-    omega arith)
-
-pub no_sixteen : (text : List ℕ) → ((bs : List ℕ) → Bytes bs → length bs ≡ 16 → text ≡ hex_of bs → ⊥) → (c : Command) → Spells c (spaced (codes "format") text) → ⊥
+no_sixteen : (text : List ℕ) → ((bs : List ℕ) → Bytes bs → length bs ≡ 16 → text ≡ hex_of bs → ⊥) → (c : Command) → Spells c (spaced (codes "format") text) → ⊥
 no_sixteen text h = search rules
 
-pub described :
-    (text : List ℕ) (v : Vec ℕ Global) (n : ℕ) → n ≡ length (vec_items v) → Bytes (vec_items v) × (text ≡ hex_of (vec_items v))
-    → Reads Spells (then_some (eqb n 16) (Recognize v)) (spaced (codes "format") text)
-described text v n size s = at (eqb n 16) (Decides-eqb n 16)
+-- a value that passes a test becomes a command, and another does not
+abbrev Kept : {A : Type 0} → (A → Bool) → (A → Command) → Option A → Option Command → Type 0
+Kept test make o r = MatchOption o (r ≡ None) (λ x. r ≡ then_some (test x) (make x))
+
+-- by `filter` and `map`
+pub kept :
+    {A : Type 0} {Gives : A → Bool → Type 0} {Makes : A → Command → Type 0} (test : A → Bool) (make : A → Command) (o f : Option A) (r : Option Command)
+    → MatchOption o (f ≡ None) (λ x. (b : Bool) × Gives x b × (f ≡ then_some b x)) → ((x : A) (b : Bool) → Gives x b → b ≡ test x)
+    → MatchOption f (r ≡ None) (λ x. IsSomeAnd r (Makes x)) → ((x : A) (c : Command) → Makes x c → c ≡ make x)
+    → Kept test make o r
+kept {A} {Gives} {Makes} test make None f r g t m k = MatchOption-at_none (r ≡ None) (λ x. IsSomeAnd r (Makes x)) g m
+kept {A} {Gives} {Makes} test make (Some x) f r g t m k = by_test g.0 g.2 ∙ ap (λ b. then_some b (make x)) (t x g.0 g.1)
   where
-    at : (sixteen : Bool) → Decides sixteen (n ≡ 16) → Reads Spells (then_some sixteen (Recognize v)) (spaced (codes "format") text)
+    made : (o : Option Command) → IsSomeAnd o (Makes x) → o ≡ Some (make x)
+    made None h = absurd h
+    made (Some c) h = ap Some (k x c h)
+
+    by_test : (b : Bool) → f ≡ then_some b x → r ≡ then_some b (make x)
+    by_test true e = made r (MatchOption-at_some (r ≡ None) (λ x. IsSomeAnd r (Makes x)) x e m)
+    by_test false e = MatchOption-at_none (r ≡ None) (λ x. IsSomeAnd r (Makes x)) e m
+
+pub read_limited : (text : List ℕ) (o : Option ℕ) (r : Option Command) → Reads SpellsNumber o text → Kept (λ n. leb n read_limit) Read o r → Reads Spells r (spaced (codes "read") text)
+read_limited text None r s e = missing r _ _ e (no_read text (λ n low t. s (saturated n) (n, t, refl)))
+read_limited text (Some m) r s e = subst (λ z. Reads Spells z (spaced (codes "read") text)) (sym e) (at (leb m read_limit) refl)
+  where
+    at : (fits : Bool) → fits ≡ leb m read_limit → Reads Spells (then_some fits (Read m)) (spaced (codes "read") text)
+    at true t =
+        let low : m ≤ read_limit = grind (arith, nat_tests) in
+        let same : s.0 ≡ m = omega arith in
+        (low, ap (λ t. spaced (codes "read") t) (s.1 ∙ ap decimal same))
+    at false t = no_read text (λ n low e.
+        let same : s.0 ≡ n = decimal_tells s.0 n (sym s.1 ∙ e) in
+        let high : read_limit < m = grind (arith, nat_tests) in
+        omega arith)
+
+pub described :
+    (text : List ℕ) (o : Option (Vec ℕ Global)) (r : Option Command)
+    → MatchOption o ((bs : List ℕ) → Bytes bs → text ≡ hex_of bs → ⊥) (λ v. Bytes (vec_items v) × (text ≡ hex_of (vec_items v)))
+    → Kept (λ v. eqb (vec_len v) 16) Recognize o r → Reads Spells r (spaced (codes "format") text)
+described text None r s e = missing r _ _ e (no_sixteen text (λ bs p l t. s bs p t))
+described text (Some v) r s e = subst (λ z. Reads Spells z (spaced (codes "format") text)) (sym e) (at (eqb (vec_len v) 16) (Decides-eqb (vec_len v) 16))
+  where
+    size : vec_len v ≡ length (vec_items v)
+    size = omega (arith, v.ok.0)
+
+    at : (sixteen : Bool) → Decides sixteen (vec_len v ≡ 16) → Reads Spells (then_some sixteen (Recognize v)) (spaced (codes "format") text)
     at true d = (sym size ∙ d.0 refl, (s.0, ap (λ t. spaced (codes "format") t) s.1))
     at false d = no_sixteen text (λ bs p l e.
         let same : vec_items v ≡ bs = sym (unhex-hex_of (vec_items v) s.0) ∙ ap unhex (sym s.1 ∙ e) ∙ unhex-hex_of bs p in

@@ -95,8 +95,9 @@ fn line(text: &[u8]) -> Option<Command>
 fn read(text: &[u8]) -> Option<Command>
     ensures { Reads Spells result (spaced (codes "read") text.now) }
 {
-    let n = usize::from_word(text)?;
-    (n <= READ_LIMIT).then_some(Command::Read(n))
+    usize::from_word(text)
+        .filter(|n| *n <= READ_LIMIT)
+        .map(Command::Read)
 }
 
 fn pixel(text: &[u8]) -> Option<Command>
@@ -109,8 +110,6 @@ fn pixel(text: &[u8]) -> Option<Command>
 fn recognize(heap: Global, text: &[u8]) -> Result<Option<Command>, AllocError>
     ensures { IfOk result (λ o. Reads Spells o (spaced (codes "format") text.now)) }
 {
-    let Some(bytes) = parse_hex(heap, text)? else {
-        return Ok(None);
-    };
-    Ok((bytes.len() == DESCRIPTION).then_some(Command::Recognize(bytes)))
+    let sixteen = parse_hex(heap, text)?.filter(|bytes| bytes.len() == DESCRIPTION);
+    Ok(sixteen.map(Command::Recognize))
 }

@@ -1,10 +1,10 @@
-use Rattle.std.proofs.Common.{refl, rules}
-use Rattle.notation.specs.Decimal.{saturated}
-use Rattle.command.proofs.Reading.{missing, no_read, read_limited}
+use Rattle.std.proofs.Common.{leb, rules, tests}
+use Rattle.command.specs.Grammar.{read_limit}
+use Rattle.command.specs.declared.Command.TheVariants.{Read}
+use Rattle.command.proofs.Reading.{kept, read_limited}
 use Rattle.command.proofs.read.Goals as goal
 
-pub returns-in_err-n : goal.returns-in_err-n
-returns-in_err-n c = missing _ _ _ c.from_residual.ensures (no_read c.args.text.now (λ n low e. c.in_err-n.ensures (saturated n) (n, e, refl)))
-
 pub returns : goal.returns
-returns c = search (rules, read_limited c.args.text.now c.in_ok-n.n _ refl c.in_ok-n.ensures)
+returns c =
+    read_limited c.args.text.now c.from_word.result c.map.result c.from_word.ensures
+    (kept (λ n. leb n read_limit) Read c.from_word.result c.filter.result c.map.result c.filter.ensures (λ n b k. search (rules, tests)) c.map.ensures.cases (λ n d k. search rules))
