@@ -17,7 +17,7 @@ use Rattle.notation.proofs.Pairs.{unhex, unhex-hex_of}
 use Rattle.command.specs.Grammar.{SpellsNumber, Spells, kind_word, read_limit}
 use Rattle.command.specs.Reads.{Reads}
 use Rattle.command.specs.Spaces.{Unspaced, spaced}
-use Rattle.command.specs.Unspaced.{no_space_is, tested}
+use Rattle.command.specs.Unspaced.{not_space, no_space_in}
 use Rattle.command.specs.declared.Command.{Command}
 use Rattle.command.specs.declared.Command.TheVariants.{Line, Write, Read, Flush, Queue, Carry, Pixel, Describe, Recognize}
 use Rattle.command.specs.declared.Kind.{Kind}
@@ -156,8 +156,8 @@ no_form text word rest u e line write read carry pixel describe format = elim [
   | Recognize v ↦ λ s. format (begun (codes "format") _ refl s.1.1)
 ]
   where
-    begun : (front more : List ℕ) → list_all no_space_is front ≡ true → text ≡ spaced front more → word ≡ front
-    begun front more all f = same_word text word rest front more u e (tested front all front refl) f
+    begun : (front more : List ℕ) → list_all not_space front ≡ true → text ≡ spaced front more → word ≡ front
+    begun front more all f = same_word text word rest front more u e (no_space_in front all front refl) f
 
-    spaceless : (front : List ℕ) → list_all no_space_is front ≡ true → text ≡ front → ⊥
-    spaceless front all f = let at = space_at text word rest e in tested front all text f (length word) at.0 at.1
+    spaceless : (front : List ℕ) → list_all not_space front ≡ true → text ≡ front → ⊥
+    spaceless front all f = let at = space_at text word rest e in no_space_in front all text f (length word) at.0 at.1
