@@ -4,13 +4,12 @@ use Rattle.std.proofs.lemmas.List.{length-append}
 use Rattle.std.proofs.lemmas.Bool.{true≢false}
 use Rattle.std.proofs.lemmas.Bool.Decides.{nat_tests}
 use Rattle.notation.specs.Decimal.{decimal}
-use Rattle.notation.proofs.Numbers.{undecimal, undecimal-decimal}
+use Rattle.notation.proofs.Numbers.{no_space, undecimal, undecimal-decimal}
 use Rattle.screen.specs.declared.rect.Rect.{Rect}
 use Rattle.command.specs.Alone.{RegionAlone}
 use Rattle.command.specs.Changes.{SpellsRegion, SpellsChange, rect_text}
 use Rattle.command.specs.Grammar.{Spells}
 use Rattle.command.specs.Spaces.{spaced}
-use Rattle.command.proofs.Shorts.{decimal_unspaced}
 use Rattle.command.proofs.Splits.{behind_is, behind_of, word_is, word_of}
 use Rattle.command.proofs.Unambiguous.{begins}
 use Rattle.command.specs.declared.Command.{Command}
@@ -46,10 +45,10 @@ name_says text = begins text 0 (codes "a") A B
 
 -- the words of a rectangle's numbers
 word_told : (n : ℕ) (rest : List ℕ) → undecimal (word_of (spaced (decimal n) rest)) ≡ n
-word_told n rest = ap undecimal (word_is (decimal n) rest (decimal_unspaced n)) ∙ undecimal-decimal n
+word_told n rest = ap undecimal (word_is (decimal n) rest (no_space n)) ∙ undecimal-decimal n
 
 behind_told : (n : ℕ) (rest : List ℕ) → behind_of (spaced (decimal n) rest) ≡ rest
-behind_told n rest = behind_is (decimal n) rest (decimal_unspaced n)
+behind_told n rest = behind_is (decimal n) rest (no_space n)
 
 rect_told : (rect : Rect) → rect_says (rect_text rect) ≡ rect
 rect_told rect =

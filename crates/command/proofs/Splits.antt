@@ -1,6 +1,6 @@
 -- A text is its first word, a space and the rest in one way only.
 use Rattle.std.proofs.Common.{◌≡◌, ℕ, suc, ◌+◌, ◌-◌, ◌<◌, false, cond, eqb, List, [], ◌∷◌, ◌++◌, length, get_or, take, drop, sym, refl, ap, ◌∙◌, arith}
-use native.Mathlib.Nat.{sub-zero}
+use Rattle.std.specs.List.{AllWithin, HoldsAt}
 use Rattle.std.proofs.lemmas.List.{drop_more, get_or_at, get_or-take, length-append, length-take, take-append-drop, take_rest}
 use Rattle.std.proofs.lemmas.Bool.Decides.{nat_tests}
 use Rattle.command.specs.Spaces.{Unspaced, spaced}
@@ -25,19 +25,29 @@ pub behind_is : (word rest : List ℕ) → Unspaced word → behind_of (spaced w
 behind_is [] rest h = refl
 behind_is (c ∷ word) rest h = rw (other c (h 0 (omega arith))) (behind_is word rest (λ k l. h (suc k) (omega arith)))
 
+-- the code is not a space's
+abbrev pub NoSpace : ℕ → Type 0
+NoSpace code = code ≡ 32 → ⊥
+
+-- the space behind the first word
+pub space_at : (text word rest : List ℕ) → text ≡ spaced word rest → (length word < length text) × (get_or text (length word) 0 ≡ 32)
+space_at text word rest e =
+    (omega (arith, ap length e ∙ length-append word (32 ∷ rest)), ap (λ t. get_or t (length word) 0) e ∙ get_or_at word 32 rest 0 (length word) refl)
+
 -- a text with no space has no first word
-pub no_split : (text : List ℕ) → Unspaced text → (word rest : List ℕ) → text ≡ spaced word rest → ⊥
-no_split text h word rest e =
-    h (length word) (omega (arith, ap length e ∙ length-append word (32 ∷ rest))) (ap (λ t. get_or t (length word) 0) e ∙ get_or_at word 32 rest 0 (length word) refl)
+pub no_split : (text : List ℕ) → AllWithin NoSpace text 0 (length text) → (word rest : List ℕ) → text ≡ spaced word rest → ⊥
+no_split text none word rest e = let at = space_at text word rest e in none (length word) 0 (omega arith) at.0 at.1
 
 -- a text at its first space
-pub split : (text : List ℕ) (i : ℕ) → i < length text → get_or text i 0 ≡ 32 → ((k : ℕ) → k < i → get_or text k 0 ≡ 32 → ⊥) → Unspaced (take (i - 0) text) × (text ≡ spaced (take (i - 0) text) (take (length text - (i + 1)) (drop (i + 1) text)))
-split text i h at before = rw (sub-zero i, take_rest text (i + 1)) (alone, whole)
+pub split :
+    (text : List ℕ) (i : ℕ) → (i < length text) × HoldsAt (λ code. code ≡ 32) text i × AllWithin NoSpace text 0 i
+    → Unspaced (take i text) × (text ≡ spaced (take i text) (take (length text - (i + 1)) (drop (i + 1) text)))
+split text i found = rw (take_rest text (i + 1)) (alone, whole)
   where
     alone : Unspaced (take i text)
     alone k l e =
         let near : k < i = omega (arith, length-take i text) in
-        before k near (sym (get_or-take i text k 0 near) ∙ e)
+        found.2 k 0 (omega arith) near (sym (get_or-take i text k 0 near) ∙ e)
 
     whole : text ≡ spaced (take i text) (drop (i + 1) text)
-    whole = sym (take-append-drop i text) ∙ ap (λ t. take i text ++ t) (drop_more text i 0 h ∙ ap (λ c. c ∷ drop (i + 1) text) at)
+    whole = sym (take-append-drop i text) ∙ ap (λ t. take i text ++ t) (drop_more text i 0 found.0 ∙ ap (λ c. c ∷ drop (i + 1) text) (found.1 0))

@@ -5,6 +5,7 @@ use Rattle.screen.specs.declared.rect.Rect.{Rect}
 use Rattle.command.specs.Spaces.{spaced}
 use Rattle.command.specs.declared.regions.Change.{Change}
 use Rattle.command.specs.declared.regions.Change.TheVariants.{Empty, ByRect, ByRegion}
+use Rattle.command.specs.declared.regions.RegionCommand.{RegionCommand}
 use Rattle.command.specs.declared.regions.Name.{Name}
 use Rattle.command.specs.declared.regions.Name.TheVariants.{A, B}
 use Rattle.region.specs.declared.operation.Operation.{Operation}
@@ -22,10 +23,6 @@ operation_word Away = codes "away"
 -- the text is a short number, one of sixteen bits
 abbrev pub SpellsShort : ℕ → List ℕ → Type 0
 SpellsShort n text = (n < 65536) × (text ≡ decimal n)
-
--- the text is a short number, a space and the rest
-abbrev pub BeginsShort : ℕ → List ℕ → List ℕ → Type 0
-BeginsShort n rest text = (n < 65536) × (text ≡ spaced (decimal n) rest)
 
 -- each of a rectangle's numbers is short
 abbrev pub AllShort : Rect → Type 0
@@ -50,3 +47,6 @@ OfRegion name rest text = text ≡ codes "region " ++ spaced (name_word name) re
 -- the text asks for this change of the region of that name
 abbrev pub SpellsRegion : Name → Change → List ℕ → Type 0
 SpellsRegion name change text = (rest : List ℕ) × OfRegion name rest text × SpellsChange change rest
+
+abbrev pub SpellsRegionCommand : RegionCommand → List ℕ → Type 0
+SpellsRegionCommand c text = SpellsRegion c.name c.change text

@@ -2,4 +2,6 @@ pub mod Alone
 pub mod Changes
 pub mod Grammar
 pub mod Meaning
+pub mod Reads
 pub mod Spaces
+pub mod Unspaced

@@ -3,28 +3,36 @@
 
 ghost use Rattle.command.specs.Grammar.{Spells};
 ghost use Rattle.command.specs.Meaning.{Unambiguous};
-ghost use Rattle.std.specs.Prelude.{IfOk, MatchOption};
+ghost use Rattle.command.specs.Reads.{Reads};
+ghost use Rattle.command.specs.Spaces.{spaced};
+ghost use Rattle.std.specs.Prelude.{◌≢◌, IfOk, MatchOption, codes};
 
-mod lines;
-mod pixels;
 mod regions;
+mod word;
 mod words;
 
-use lines::{carry, flush, line, queue, read, write};
+use notation::parse_hex;
 use pixel::Format;
-use pixels::{describe, pixel, recognize};
 pub use region::Operation;
 pub use regions::{Change, Name, RegionCommand, parse_region};
 use std::alloc::{AllocError, Global};
+use word::Word;
+use words::{first, split_word};
 
-#[derive(Clone, Copy)]
+// At most so many bytes are read at once.
+const READ_LIMIT: usize = 65536;
+
+// How many bytes describe a format.
+const DESCRIPTION: usize = 16;
+
+#[derive(Clone, Copy, PartialEq, Eq, Hash, Debug)]
 pub enum Kind {
     Ring,
     Batch,
     Pile,
 }
 
-#[derive(Drop)]
+#[derive(Drop, PartialEq, Eq, Debug)]
 pub enum Command {
     // `line ring N`, `line batch N` or `line pile N`
     Line(Kind, usize),
@@ -44,44 +52,64 @@ pub enum Command {
     Recognize(Vec<u8>),
 }
 
-// Tries each form in turn.
-fn find(heap: Global, text: &[u8]) -> Result<Option<Command>, AllocError>
-    ensures { IfOk result (λ o. MatchOption o ((c : Command) → Spells c text.now → ⊥) (λ c. Spells c text.now)) }
-{
-    if let Some(c) = line(text) {
-        return Ok(Some(c));
-    }
-    if let Some(c) = read(text) {
-        return Ok(Some(c));
-    }
-    if let Some(c) = flush(text) {
-        return Ok(Some(c));
-    }
-    if let Some(c) = queue(text) {
-        return Ok(Some(c));
-    }
-    if let Some(c) = pixel(text) {
-        return Ok(Some(c));
-    }
-    if let Some(c) = describe(text) {
-        return Ok(Some(c));
-    }
-    if let Some(c) = write(heap, text)? {
-        return Ok(Some(c));
-    }
-    if let Some(c) = carry(heap, text)? {
-        return Ok(Some(c));
-    }
-    if let Some(c) = recognize(heap, text)? {
-        return Ok(Some(c));
-    }
-    Ok(None)
-}
-
 // The command that the text spells, or `None` where it spells none. No text spells two.
+#[tactic(auto, using(crate::proofs::Unambiguous::unambiguous))]
 pub fn parse(heap: Global, text: &[u8]) -> Result<Option<Command>, AllocError>
-    ensures value { IfOk result (λ o. MatchOption o ((c : Command) → Spells c text.now → ⊥) (λ c. Spells c text.now)) }
+    ensures value { IfOk result (λ o. Reads Spells o text.now) }
     ensures alone { Unambiguous }
 {
-    find(heap, text)
+    let Some((word, rest)) = split_word(text) else {
+        return Ok(lone(text));
+    };
+    match word {
+        b"line" => Ok(line(rest)),
+        b"write" => Ok(parse_hex(heap, rest)?.map(Command::Write)),
+        b"read" => Ok(read(rest)),
+        b"carry" => Ok(parse_hex(heap, rest)?.map(Command::Carry)),
+        b"pixel" => Ok(pixel(rest)),
+        b"describe" => Ok(Format::from_word(rest).map(Command::Describe)),
+        b"format" => recognize(heap, rest),
+        _ => Ok(None),
+    }
+}
+
+// A command of one word.
+fn lone(text: &[u8]) -> Option<Command>
+    ensures { MatchOption result ((text.now ≢ codes "flush") × (text.now ≢ codes "queue")) (λ c. Spells c text.now) }
+{
+    match text {
+        b"flush" => Some(Command::Flush),
+        b"queue" => Some(Command::Queue),
+        _ => None,
+    }
+}
+
+// What stands behind `line `. The other forms have such functions too.
+fn line(text: &[u8]) -> Option<Command>
+    ensures { Reads Spells result (spaced (codes "line") text.now) }
+{
+    let (kind, rest) = first(text)?;
+    Some(Command::Line(kind, usize::from_word(rest)?))
+}
+
+fn read(text: &[u8]) -> Option<Command>
+    ensures { Reads Spells result (spaced (codes "read") text.now) }
+{
+    usize::from_word(text)
+        .filter(|n| *n <= READ_LIMIT)
+        .map(Command::Read)
+}
+
+fn pixel(text: &[u8]) -> Option<Command>
+    ensures { Reads Spells result (spaced (codes "pixel") text.now) }
+{
+    let (format, rest) = first(text)?;
+    Some(Command::Pixel(format, u8::from_word(rest)?))
+}
+
+fn recognize(heap: Global, text: &[u8]) -> Result<Option<Command>, AllocError>
+    ensures { IfOk result (λ o. Reads Spells o (spaced (codes "format") text.now)) }
+{
+    let sixteen = parse_hex(heap, text)?.filter(|bytes| bytes.len() == DESCRIPTION);
+    Ok(sixteen.map(Command::Recognize))
 }

@@ -1,8 +1,11 @@
 -- What a number's spelling looks like, and that it can be read in one way.
-use Rattle.std.proofs.Common.{◌≡◌, ℕ, zero, suc, ◌+◌, ◌-◌, ◌*◌, ◌/◌, ◌%◌, ◌<◌, ◌≤◌, List, [], ◌∷◌, ◌++◌, map, length, get_or, take, codes, sym, refl, ap, ◌∙◌, ⊎_elim, arith}
+use Rattle.std.proofs.Common.{◌≡◌, ℕ, zero, suc, ◌+◌, ◌-◌, ◌*◌, ◌/◌, ◌%◌, ◌<◌, ◌≤◌, List, [], ◌∷◌, ◌++◌, map, length, get_or, take, drop, ◌==◌, MatchOption, sym, refl, ap, ◌∙◌, ⊎_elim, inl, inr, arith}
+use Prim.Native.Nat.compare
 use lib.ListN.{length-map}
 use Rattle.std.specs.Int.Digits.{digits_of, number_from_digits, AllBelowBase}
-use Rattle.std.proofs.lemmas.List.{map_push, take_more, take_all}
+use Rattle.std.specs.Bool.{then_some}
+use Rattle.std.specs.Char.{IsNotAsciiDigit}
+use Rattle.std.proofs.lemmas.List.{map_push, take_more, take_rest, take_all}
 use Rattle.std.proofs.lemmas.Bool.{cases_lt}
 use Rattle.std.proofs.lemmas.Int.Digits.{digits_of_step, number_digits_of, first_digits_of, all_below_base_digits_of}
 use Rattle.notation.specs.Decimal.{decimal, saturated}
@@ -84,11 +87,15 @@ decimal_in zero zero h = (omega arith, omega arith)
 decimal_in zero (suc i) h = absurd (omega arith)
 decimal_in (suc n) i h = digit_in (digits_of 10 (suc n)) i (all_below_base_digits_of 10 (suc n) (omega arith)) (omega (arith, length-map (digits_of 10 (suc n)) (λ d. 48 + d)))
 
-pub no_digit : (text : List ℕ) (i : ℕ) → i < length text → (48 ≤ get_or text i 0 → get_or text i 0 ≤ 57 → ⊥) → (n : ℕ) → text ≡ decimal n → ⊥
+-- no space stands in a number's spelling
+pub no_space : (n k : ℕ) → k < length (decimal n) → get_or (decimal n) k 0 ≡ 32 → ⊥
+no_space n k h space = let d = decimal_in n k h in omega arith
+
+pub no_digit : (text : List ℕ) (i : ℕ) → i < length text → IsNotAsciiDigit (get_or text i 0) → (n : ℕ) → text ≡ decimal n → ⊥
 no_digit text i h f n e =
     let d = decimal_in n i (omega (arith, ap length e)) in
     let same : get_or text i 0 ≡ get_or (decimal n) i 0 = ap (λ t. get_or t i 0) e in
-    f (omega (arith, same, d.0)) (omega (arith, same, d.1))
+    elim f [ inl low ↦ omega arith | inr high ↦ omega arith ]
 
 -- the first digit of a number that is not 0
 first_digit : (n : ℕ) → 0 < n → (0 < length (decimal n)) × (48 < get_or (decimal n) 0 0)
@@ -99,11 +106,14 @@ first_digit (suc n) h = at (digits_of 10 (suc n)) (first_digits_of 10 (suc n) (o
     at [] h = absurd (omega arith)
     at (d ∷ ds) h = (omega arith, omega arith)
 
-pub no_empty : (text : List ℕ) → length text ≡ 0 → (n : ℕ) → text ≡ decimal n → ⊥
-no_empty text z zero e = omega (arith, ap length e)
-no_empty text z (suc n) e = omega (arith, ap length e, (first_digit (suc n) (omega arith)).0)
-
 -- only 0 begins with the digit 0
-pub no_leading : (text : List ℕ) → get_or text 0 0 ≡ 48 → (text ≡ codes "0" → ⊥) → (n : ℕ) → text ≡ decimal n → ⊥
-no_leading text z other zero e = other e
-no_leading text z other (suc n) e = omega (arith, ap (λ t. get_or t 0 0) e, (first_digit (suc n) (omega arith)).1)
+pub leading_zero :
+    (text : List ℕ) → 1 ≤ length text → get_or text 0 0 ≡ 48
+    → MatchOption (then_some (length (take (length text - 1) (drop 1 text)) == 0) 0) ((n : ℕ) → text ≡ decimal n → ⊥) (λ m. (n : ℕ) × (text ≡ decimal n) × (m ≡ saturated n))
+leading_zero [] h z = absurd (omega arith)
+leading_zero (c ∷ []) h z = (0, (λ i. z i ∷ []), refl)
+leading_zero (c ∷ d ∷ text) h z = rw (take_rest (c ∷ d ∷ text) 1, compare.suc-zero) longer
+  where
+    longer : (n : ℕ) → c ∷ d ∷ text ≡ decimal n → ⊥
+    longer zero e = absurd (omega (arith, ap length e))
+    longer (suc n) e = omega (arith, ap (λ t. get_or t 0 0) e, (first_digit (suc n) (omega arith)).1)

@@ -1,6 +1,10 @@
 -- What a byte string's spelling looks like, and that it can be read in one way.
-use Rattle.std.proofs.Common.{◌≡◌, ℕ, zero, suc, ◌+◌, ◌-◌, ◌*◌, ◌/◌, ◌%◌, ◌<◌, ◌≤◌, cond, ltb, List, [], ◌∷◌, ◌++◌, length, get_or, take, sym, refl, ap, ◌∙◌, subst, arith}
-use Rattle.std.proofs.lemmas.List.{append_assoc, take_more, take_all}
+use Rattle.std.proofs.Common.{◌≡◌, ℕ, suc, ◌+◌, ◌-◌, ◌*◌, ◌/◌, ◌%◌, ◌<◌, ◌≤◌, ◌==◌, true, cond, eqb, ltb, List, [], ◌∷◌, ◌++◌, length, get_or, take, drop, vec_items, Vec, MatchOption, slice_index, sym, refl, ap, ◌∙◌, subst, arith, Fits, w8}
+use Rattle.std.specs.declared.alloc.Global.{Global}
+use Rattle.std.specs.Bool.{then_some}
+use Rattle.std.proofs.lemmas.Bool.{agree_below_at, eqb-true}
+use Rattle.hex.specs.Hex.{encode_upper, encode_with, upper_digits}
+use Rattle.std.proofs.lemmas.List.{append_assoc, append-nil, length-append, take_rest}
 use Rattle.std.proofs.lemmas.Bool.Decides.{nat_tests}
 use Rattle.notation.specs.Hex.{Bytes, hex_digit, hex_pairs, hex_of}
 
@@ -11,17 +15,6 @@ pairs_append (b ∷ bs) cs = ap (λ ds. hex_digit (b / 16) ∷ hex_digit (b % 16
 pub length_pairs : (bs : List ℕ) → length (hex_pairs bs) ≡ 2 * length bs
 length_pairs [] = refl
 length_pairs (b ∷ bs) = omega (arith, length_pairs bs)
-
--- the digits of the byte at a place
-pub high_at : (bs : List ℕ) (i : ℕ) → i < length bs → get_or (hex_pairs bs) (2 * i) 0 ≡ hex_digit (get_or bs i 0 / 16)
-high_at [] i h = absurd (omega arith)
-high_at (b ∷ bs) zero h = refl
-high_at (b ∷ bs) (suc i) h = let e : 2 * suc i ≡ suc (suc (2 * i)) = omega arith in rw e (high_at bs i (omega arith))
-
-pub low_at : (bs : List ℕ) (i : ℕ) → i < length bs → get_or (hex_pairs bs) (2 * i + 1) 0 ≡ hex_digit (get_or bs i 0 % 16)
-low_at [] i h = absurd (omega arith)
-low_at (b ∷ bs) zero h = refl
-low_at (b ∷ bs) (suc i) h = let e : 2 * suc i + 1 ≡ suc (suc (2 * i + 1)) = omega arith in rw e (low_at bs i (omega arith))
 
 -- the digit, and the bytes, that a spelling writes
 abbrev undigit : ℕ → ℕ
@@ -47,41 +40,57 @@ pub unhex-hex_of : (bs : List ℕ) → Bytes bs → unhex (hex_of bs) ≡ bs
 unhex-hex_of [] p = refl
 unhex-hex_of (b ∷ bs) p = unhex-pairs (b ∷ bs) p
 
--- where no byte's digits stand at a place, no bytes are written so
-pub no_pair : (text bs : List ℕ) (i : ℕ) → 2 * i + 1 < length text → ((b : ℕ) → b < 256 → get_or text (2 * i) 0 ≡ hex_digit (b / 16) → get_or text (2 * i + 1) 0 ≡ hex_digit (b % 16) → ⊥) → Bytes bs → text ≡ hex_pairs bs → ⊥
-no_pair text bs i h f p e =
-    let l : i < length bs = omega (arith, ap length e, length_pairs bs) in
-    f (get_or bs i 0) (every_at bs i p l) (ap (λ t. get_or t (2 * i) 0) e ∙ high_at bs i l) (ap (λ t. get_or t (2 * i + 1) 0) e ∙ low_at bs i l)
+-- where the rest of a text begins with no byte's digits, no bytes are written so
+pub no_pair :
+    (text read rest : List ℕ) → 2 ≤ length rest → text ≡ hex_pairs read ++ rest
+    → ((b : ℕ) → b < 256 → get_or rest 0 0 ≡ hex_digit (b / 16) → get_or rest 1 0 ≡ hex_digit (b % 16) → ⊥)
+    → (bs : List ℕ) → Bytes bs → text ≡ hex_pairs bs → ⊥
+no_pair text read rest more e f bs p g = behind read bs p (sym e ∙ g)
   where
-    every_at : (bs : List ℕ) (i : ℕ) → Bytes bs → i < length bs → get_or bs i 0 < 256
-    every_at [] i p h = absurd (omega arith)
-    every_at (b ∷ bs) zero p h = p.0
-    every_at (b ∷ bs) (suc i) p h = every_at bs i p.1 (omega arith)
+    behind : (read bs : List ℕ) → Bytes bs → hex_pairs read ++ rest ≡ hex_pairs bs → ⊥
+    behind [] [] p e = absurd (omega (arith, ap length e))
+    behind [] (b ∷ bs) p e = f b p.0 (ap (λ t. get_or t 0 0) e) (ap (λ t. get_or t 1 0) e)
+    behind (r ∷ read) [] p e = absurd (omega (arith, ap length e))
+    behind (r ∷ read) (b ∷ bs) p e = behind read bs p.1 (ap (drop 2) e)
 
-pub no_odd : (text bs : List ℕ) → (length text % 2 ≡ 0 → ⊥) → text ≡ hex_pairs bs → ⊥
-no_odd text bs odd e = odd (omega (arith, ap length e, length_pairs bs))
-
-pub bytes_push : (bs : List ℕ) (b : ℕ) → Bytes bs → b < 256 → Bytes (bs ++ b ∷ [])
+bytes_push : (bs : List ℕ) (b : ℕ) → Bytes bs → b < 256 → Bytes (bs ++ b ∷ [])
 bytes_push [] b p h = (h, tt)
 bytes_push (c ∷ bs) b p h = (p.0, bytes_push bs b p.1 h)
 
--- one more byte is written, a digit at a time
-pub pairs_more : (bytes : List ℕ) (i h l : ℕ) (was mid end hs ls : List ℕ) → i < length bytes → was ≡ hex_pairs (take i bytes) → h ≡ hex_digit (get_or bytes i 0 / 16) → l ≡ hex_digit (get_or bytes i 0 % 16) → hs ≡ h ∷ [] → ls ≡ l ∷ [] → mid ≡ was ++ hs → end ≡ mid ++ ls → end ≡ hex_pairs (take (i + 1) bytes)
-pairs_more bytes i h l was mid end hs ls within w p q e f m n =
-    let x = take_more bytes i 0 within in
-    let y = pairs_append (take i bytes) (get_or bytes i 0 ∷ []) in
-    let z = append_assoc (hex_pairs (take i bytes)) (h ∷ []) (l ∷ []) in
-    cc
+-- the text is the spelling of the bytes, and then the rest
+abbrev pub ReadSoFar : List ℕ → List ℕ → List ℕ → Type 0
+ReadSoFar text bs rest = Bytes bs × (text ≡ hex_pairs bs ++ rest)
 
 -- one more byte is read
-pub read_pair : (text bs end : List ℕ) (i b : ℕ) → 2 * i + 1 < length text → Bytes bs → take (2 * i) text ≡ hex_pairs bs → b < 256 → get_or text (2 * i) 0 ≡ hex_digit (b / 16) → get_or text (2 * i + 1) 0 ≡ hex_digit (b % 16) → end ≡ bs ++ b ∷ [] → Bytes end × (take (2 * (i + 1)) text ≡ hex_pairs end)
-read_pair text bs end i b within p so small h l e =
-    let x = take_more text (2 * i) 0 (omega arith) in
-    let y = take_more text (2 * i + 1) 0 within in
-    let z : 2 * (i + 1) ≡ 2 * i + 1 + 1 = omega arith in
-    let u = pairs_append bs (b ∷ []) in
-    let v = append_assoc (hex_pairs bs) (get_or text (2 * i) 0 ∷ []) (get_or text (2 * i + 1) 0 ∷ []) in
-    (subst Bytes (sym e) (bytes_push bs b p small), (cc))
+pub read_pair :
+    (text bs rest end : List ℕ) (b : ℕ) → 2 ≤ length rest → ReadSoFar text bs rest
+    → (b < 256) × (get_or rest 0 0 ≡ hex_digit (b / 16)) × (get_or rest 1 0 ≡ hex_digit (b % 16)) → end ≡ bs ++ b ∷ []
+    → ReadSoFar text end (take (length rest - 2) (drop 2 rest))
+read_pair text bs [] end b more so d e = absurd (omega arith)
+read_pair text bs (h ∷ []) end b more so d e = absurd (omega arith)
+read_pair text bs (h ∷ l ∷ rest) end b more so d e =
+    let behind = take_rest (h ∷ l ∷ rest) 2 in
+    let pairs = pairs_append bs (b ∷ []) in
+    let parts = append_assoc (hex_pairs bs) (h ∷ l ∷ []) rest in
+    (subst Bytes (sym e) (bytes_push bs b so.0 d.0), (cc))
 
-pub read_pairs : (text bs : List ℕ) (n : ℕ) → length text ≤ n → take n text ≡ hex_pairs bs → text ≡ hex_pairs bs
-read_pairs text bs n h e = sym (take_all n text h) ∙ e
+-- all is read, or a digit is left over
+pub read_pairs :
+    (text rest : List ℕ) (v : Vec ℕ Global) → length rest < 2 → ReadSoFar text (vec_items v) rest
+    → MatchOption (then_some (length rest == 0) v) ((bs : List ℕ) → Bytes bs → text ≡ hex_pairs bs → ⊥) (λ v. Bytes (vec_items v) × (text ≡ hex_pairs (vec_items v)))
+read_pairs text [] v h so = (so.0, so.1 ∙ append-nil (hex_pairs (vec_items v)))
+read_pairs text (c ∷ []) v h so = λ bs p e. omega (arith, ap length (sym so.1 ∙ e), length-append (hex_pairs (vec_items v)) (c ∷ []), length_pairs (vec_items v), length_pairs bs)
+read_pairs text (c ∷ d ∷ rest) v h so = absurd (omega arith)
+
+-- the library's table of digits has ours, so its spelling of bytes is ours
+digits_same : (d : ℕ) → d < 16 → hex_digit d ≡ slice_index upper_digits d
+digits_same d h = eqb-true (hex_digit d) (slice_index upper_digits d) (agree_below_at (λ d. eqb (hex_digit d) (slice_index upper_digits d)) (λ _. true) 16 d refl h)
+
+pub pairs_encoded : (bs : List ℕ) → ((i : ℕ) → Fits w8 (get_or bs i 0)) → encode_upper bs ≡ hex_pairs bs
+unfolding encode_with
+pairs_encoded [] h = refl
+pairs_encoded (b ∷ bs) h =
+    let high = digits_same (b / 16) (omega (arith, h 0)) in
+    let low = digits_same (b % 16) (omega arith) in
+    let rest = pairs_encoded bs (λ i. h (suc i)) in
+    (cc)

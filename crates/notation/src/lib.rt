@@ -36,9 +36,10 @@ pub fn hex(heap: Global, bytes: &[u8]) -> Result<String, AllocError>
     ensures { IfOk result (λ s. string_bytes s ≡ hex_of bytes.now) }
 {
     if bytes.is_empty() {
-        return String::from_str(heap, "-");
+        String::from_str(heap, "-")
+    } else {
+        hex::encode_upper(heap, bytes)
     }
-    hex_pairs(heap, bytes)
 }
 
 // The number as the console writes it.
@@ -46,30 +47,6 @@ pub fn number(heap: Global, n: usize) -> Result<String, AllocError>
     ensures { IfOk result (λ s. string_bytes s ≡ decimal n) }
 {
     n.to_string(heap)
-}
-
-// Two digits to a byte. The text grows in place, since all its room is asked for at once.
-fn hex_pairs(heap: Global, bytes: &[u8]) -> Result<String, AllocError>
-    ensures { IfOk result (λ s. string_bytes s ≡ hex_pairs bytes.now) }
-{
-    let mut text = String::with_capacity(heap, bytes.len().saturating_mul(2))?;
-    for b in bytes {
-        text.push(digit(*b / 16))?;
-        text.push(digit(*b % 16))?;
-    }
-    Ok(text)
-}
-
-// The digit for a value below 16.
-fn digit(value: u8) -> char
-    requires { value < 16 }
-    ensures value { result ≡ hex_digit value }
-    ensures ascii { result < 128 }
-{
-    if value < 10 {
-        return (b'0' + value) as char;
-    }
-    (b'A' + (value - 10)) as char
 }
 
 // The value of an upper-case digit; a lower-case one has none.
@@ -96,31 +73,27 @@ fn byte(high: u8, low: u8) -> Option<u8>
 fn parse_pairs(heap: Global, text: &[u8]) -> Result<Option<Vec<u8>>, AllocError>
     ensures { IfOk result (λ o. MatchOption o ((bs : List ℕ) → Bytes bs → text.now ≢ hex_pairs bs) (λ v. Bytes v.items × (text.now ≡ hex_pairs v.items))) }
 {
-    if text.len() % 2 != 0 {
-        return Ok(None);
-    }
-    let half = text.len() / 2;
-    let mut bytes = Vec::with_capacity(heap, half)?;
-    for i in 0..half {
-        let Some(b) = byte(text[2 * i], text[2 * i + 1]) else {
+    let mut bytes = Vec::with_capacity(heap, text.len() / 2)?;
+    let mut rest = text;
+    while let [high, low, tail @ ..] = rest {
+        let Some(b) = byte(*high, *low) else {
             return Ok(None);
         };
         bytes.push(b)?;
+        rest = tail;
     }
-    Ok(Some(bytes))
+    Ok(rest.is_empty().then_some(bytes))
 }
 
 // The bytes that the text writes, or `None` where no bytes are written so.
 pub fn parse_hex(heap: Global, text: &[u8]) -> Result<Option<Vec<u8>>, AllocError>
     ensures { IfOk result (λ o. MatchOption o ((bs : List ℕ) → Bytes bs → text.now ≢ hex_of bs) (λ v. Bytes v.items × (text.now ≡ hex_of v.items))) }
 {
-    if text.is_empty() {
-        return Ok(None);
+    match text {
+        [] => Ok(None),
+        b"-" => Ok(Some(Vec::new(heap))),
+        _ => parse_pairs(heap, text),
     }
-    if is_word(text, b"-") {
-        return Ok(Some(Vec::new(heap)));
-    }
-    parse_pairs(heap, text)
 }
 
 // The number that the text writes, or `None` where no number is written so.
@@ -128,13 +101,11 @@ pub fn parse_hex(heap: Global, text: &[u8]) -> Result<Option<Vec<u8>>, AllocErro
 pub fn parse_number(text: &[u8]) -> Option<usize>
     ensures { MatchOption result ((n : ℕ) → text.now ≢ decimal n) (λ m. (n : ℕ) × (text.now ≡ decimal n) × (m ≡ saturated n)) }
 {
-    if is_word(text, b"0") {
-        return Some(0);
+    match text {
+        [] => None,
+        [b'0', rest @ ..] => rest.is_empty().then_some(0),
+        _ => parse_digits(text),
     }
-    if text.is_empty() || text[0] == b'0' {
-        return None;
-    }
-    parse_digits(text)
 }
 
 // The number of a text that does not begin with `0`.
@@ -145,12 +116,12 @@ fn parse_digits(text: &[u8]) -> Option<usize>
 {
     let mut number: usize = 0;
     for code in text {
-        if *code < b'0' || *code > b'9' {
+        if !code.is_ascii_digit() {
             return None;
         }
         number = number
             .saturating_mul(10)
-            .saturating_add((*code - b'0') as usize);
+            .saturating_add(usize::from(*code - b'0'));
     }
     Some(number)
 }

@@ -1,0 +1,6 @@
+use Rattle.std.proofs.Common.{rules, lit<}
+use Rattle.command.proofs.Reading.{narrow}
+use Rattle.command.proofs.word.U16Word.from_word.Goals as goal
+
+pub returns : goal.returns
+returns c = search (rules, narrow 65536 (lit< tt) c.args.text.now c.in_ok-parse_number.field-0 c.try_from.result c.in_ok-parse_number.ensures c.try_from.ensures)
