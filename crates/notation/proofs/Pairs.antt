@@ -1,9 +1,7 @@
 -- What a byte string's spelling looks like, and that it can be read in one way.
-use Rattle.std.proofs.Common.{◌≡◌, ℕ, suc, ◌+◌, ◌-◌, ◌*◌, ◌/◌, ◌%◌, ◌<◌, ◌≤◌, ◌==◌, true, cond, eqb, ltb, List, [], ◌∷◌, ◌++◌, length, get_or, take, drop, vec_items, Vec, MatchOption, slice_index, sym, refl, ap, ◌∙◌, subst, arith, Fits, w8}
+use Rattle.std.proofs.Common.{◌≡◌, ℕ, ◌+◌, ◌-◌, ◌*◌, ◌/◌, ◌%◌, ◌<◌, ◌≤◌, ◌==◌, cond, ltb, List, [], ◌∷◌, ◌++◌, length, get_or, take, drop, vec_items, Vec, MatchOption, sym, refl, ap, ◌∙◌, subst, arith}
 use Rattle.std.specs.declared.alloc.Global.{Global}
 use Rattle.std.specs.Bool.{then_some}
-use Rattle.std.proofs.lemmas.Bool.{agree_below_at, eqb-true}
-use Rattle.hex.specs.Hex.{encode_upper, encode_with, upper_digits}
 use Rattle.std.proofs.lemmas.List.{append_assoc, append-nil, length-append, take_rest}
 use Rattle.std.proofs.lemmas.Bool.Decides.{nat_tests}
 use Rattle.notation.specs.Hex.{Bytes, hex_digit, hex_pairs, hex_of}
@@ -81,16 +79,3 @@ pub read_pairs :
 read_pairs text [] v h so = (so.0, so.1 ∙ append-nil (hex_pairs (vec_items v)))
 read_pairs text (c ∷ []) v h so = λ bs p e. omega (arith, ap length (sym so.1 ∙ e), length-append (hex_pairs (vec_items v)) (c ∷ []), length_pairs (vec_items v), length_pairs bs)
 read_pairs text (c ∷ d ∷ rest) v h so = absurd (omega arith)
-
--- the library's table of digits has ours, so its spelling of bytes is ours
-digits_same : (d : ℕ) → d < 16 → hex_digit d ≡ slice_index upper_digits d
-digits_same d h = eqb-true (hex_digit d) (slice_index upper_digits d) (agree_below_at (λ d. eqb (hex_digit d) (slice_index upper_digits d)) (λ _. true) 16 d refl h)
-
-pub pairs_encoded : (bs : List ℕ) → ((i : ℕ) → Fits w8 (get_or bs i 0)) → encode_upper bs ≡ hex_pairs bs
-unfolding encode_with
-pairs_encoded [] h = refl
-pairs_encoded (b ∷ bs) h =
-    let high = digits_same (b / 16) (omega (arith, h 0)) in
-    let low = digits_same (b % 16) (omega arith) in
-    let rest = pairs_encoded bs (λ i. h (suc i)) in
-    (cc)

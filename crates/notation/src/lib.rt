@@ -35,11 +35,7 @@ pub fn is_word(text: &[u8], word: &[u8]) -> bool
 pub fn hex(heap: Global, bytes: &[u8]) -> Result<String, AllocError>
     ensures { IfOk result (λ s. string_bytes s ≡ hex_of bytes.now) }
 {
-    if bytes.is_empty() {
-        String::from_str(heap, "-")
-    } else {
-        hex::encode_upper(heap, bytes)
-    }
+    HexText(bytes).to_string(heap)
 }
 
 // The number as the console writes it.
