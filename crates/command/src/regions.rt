@@ -17,7 +17,7 @@ pub enum Name {
 }
 
 // What is done to a region.
-#[derive(Clone, Copy, PartialEq, Eq, Debug)]
+#[derive(Clone, Copy, PartialEq, Eq, Hash, Debug)]
 pub enum Change {
     // `empty`
     Empty,
@@ -28,7 +28,7 @@ pub enum Change {
 }
 
 // `region NAME CHANGE`
-#[derive(Clone, Copy, PartialEq, Eq, Debug)]
+#[derive(Clone, Copy, PartialEq, Eq, Hash, Debug)]
 pub struct RegionCommand {
     pub name: Name,
     pub change: Change,

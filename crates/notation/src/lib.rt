@@ -1,10 +1,11 @@
 // How the console writes bytes and numbers, and how it reads them.
 #![tactic(auto)]
 
-ghost use Rattle.std.specs.Prelude.{◌≡◌, ℕ, ◌/◌, ◌%◌, ◌<◌, List, length, IfOk, string_bytes, Decides, MatchOption, ◌≢◌, slice_index};
+ghost use Rattle.std.specs.Prelude.{◌≡◌, ℕ, ◌/◌, ◌%◌, ◌<◌, List, length, IfOk, Decides, MatchOption, ◌≢◌, slice_index};
 ghost use Rattle.notation.specs.Decimal.{decimal, saturated};
 ghost use Rattle.notation.specs.Formats.{name_of};
 ghost use Rattle.notation.specs.Hex.{Bytes, hex_digit, hex_pairs, hex_of};
+ghost use Rattle.notation.specs.Writes.{Writes};
 
 mod hex_text;
 
@@ -33,14 +34,14 @@ pub fn is_word(text: &[u8], word: &[u8]) -> bool
 
 // The bytes as the console writes them.
 pub fn hex(heap: Global, bytes: &[u8]) -> Result<String, AllocError>
-    ensures { IfOk result (λ s. string_bytes s ≡ hex_of bytes.now) }
+    ensures { Writes result (hex_of bytes.now) }
 {
     HexText(bytes).to_string(heap)
 }
 
 // The number as the console writes it.
 pub fn number(heap: Global, n: usize) -> Result<String, AllocError>
-    ensures { IfOk result (λ s. string_bytes s ≡ decimal n) }
+    ensures { Writes result (decimal n) }
 {
     n.to_string(heap)
 }

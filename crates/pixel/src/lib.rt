@@ -85,7 +85,7 @@ impl Format {
         ensures back { ReadBack self value result out.new }
     {
         match self {
-            Format::Native => raw::put(&[(value % 256) as u8], out),
+            Format::Native => raw::put(&value.to_le_bytes()[..1], out),
             Format::Little => raw::put(&(value % COLOURS).to_le_bytes(), out),
             Format::Big => raw::put(&(value % COLOURS).to_be_bytes(), out),
         }

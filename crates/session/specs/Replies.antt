@@ -36,14 +36,7 @@ Responded (Make call) (Made answer) before after = Answered (act call) (reply an
 Responded Queue (Queued queued readable free) before after = Told queued readable free before after
 Responded (Carry bytes) (Carried rounds got) before after = Arrived (vec_items bytes) rounds (vec_items got) before after
 Responded (Carry bytes) (Refused refusal) before after = (refusal ≡ Waiting) × (1 ≤ length before.queue) × (after ≡ before)
-Responded (Make call) (Queued queued readable free) before after = ⊥
-Responded (Make call) (Carried rounds got) before after = ⊥
-Responded (Make call) (Refused refusal) before after = ⊥
-Responded Queue (Made answer) before after = ⊥
-Responded Queue (Carried rounds got) before after = ⊥
-Responded Queue (Refused refusal) before after = ⊥
-Responded (Carry bytes) (Made answer) before after = ⊥
-Responded (Carry bytes) (Queued queued readable free) before after = ⊥
+Responded request reply before after = ⊥
 
 -- an answer in the console's words
 abbrev pub words_of : Answer → List ℕ

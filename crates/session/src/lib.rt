@@ -17,14 +17,14 @@ use std::alloc::{AllocError, Global};
 use transfer::{Answer, Call, carry, converse};
 pub use words::say;
 
-#[derive(Drop)]
+#[derive(Debug, PartialEq, Eq, Drop)]
 pub enum Request {
     Make(Call),
     Queue,
     Carry(Vec<u8>),
 }
 
-#[derive(Drop)]
+#[derive(Debug, PartialEq, Eq, Drop)]
 pub enum Reply {
     Made(Answer),
     Queued {

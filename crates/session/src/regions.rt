@@ -4,6 +4,7 @@ ghost use Rattle.session.specs.Boxes.{box_words, boxes_words};
 ghost use Rattle.std.specs.Prelude.{Some};
 
 use boxes::CellBox;
+use screen::Rect;
 use std::alloc::{AllocError, Global};
 use std::fmt;
 
@@ -16,15 +17,8 @@ impl fmt::Display for BoxText<'_> {
 
     #[tactic(auto, using(notation::proofs::Printed::printed_decimal))]
     fn fmt<W: fmt::Write>(&self, f: &mut fmt::Formatter<W>) -> fmt::Result {
-        let CellBox {
-            left,
-            top,
-            right,
-            bottom,
-        } = *self.0;
-        let width = right.saturating_sub(left);
-        let height = bottom.saturating_sub(top);
-        write!(f, " {left},{top},{width},{height}")
+        let Rect { x, y, w, h } = Rect::from(*self.0);
+        write!(f, " {x},{y},{w},{h}")
     }
 }
 
