@@ -1,5 +1,5 @@
 -- A batch as a line.
-use Rattle.std.specs.Prelude.{◌≡◌, ℕ, ◌-◌, List, ◌++◌, length, drop}
+use Rattle.std.specs.Prelude.{◌≡◌, ℕ, ◌-◌, ◌≤◌, List, ◌++◌, length, drop}
 use Rattle.std.proofs.Common.{arith, length-append}
 use Rattle.line.specs.Rules.{State, Within, Opens, Wrote, Flushed}
 use Rattle.line.specs.declared.batch.Batch.{Batch}
@@ -15,6 +15,9 @@ held_by batch = batch.held.items
 
 abbrev pub batch_state : {L : Type 0} → (L → State) → Batch L → State
 batch_state lower batch = batch_of (lower batch.below) (held_by batch)
+
+pub held_few : {L : Type 0} (batch : Batch L) → length (held_by batch) ≤ 32
+held_few batch = batch.few
 
 -- The held bytes were offered below in one write; what was not taken stays held, in order.
 pub record Offered (held : List ℕ) (before : State) (held' : List ℕ) (after : State) : Type 0 where

@@ -1,7 +1,9 @@
 // A line that holds bytes back, and hands them to the line below only when it is flushed.
-use arrayvec::ArrayVec;
+ghost use Rattle.std.specs.Prelude.{◌≤◌, length};
 
 mod methods;
+
+use arrayvec::ArrayVec;
 
 // How many bytes a batch holds at most.
 const MOST: usize = 32;
@@ -11,4 +13,5 @@ const MOST: usize = 32;
 pub struct Batch<L> {
     below: L,
     held: ArrayVec<u8, MOST>,
+    ghost few: { length held.items ≤ 32 },
 }
