@@ -69,7 +69,7 @@ impl Regions {
         let region = self.named(name);
         match change {
             Change::Empty => Region::empty(),
-            Change::ByRect(operation, rect) => region.combine(operation, &Region::from_rect(rect)),
+            Change::ByRect(operation, rect) => region.combine(operation, &Region::from(rect)),
             Change::ByRegion(operation, other) => region.combine(operation, self.named(other)),
         }
     }

@@ -1,10 +1,10 @@
-// What regions do. A rectangle is a region too: `from_rect`.
+// What regions do. A rectangle is a region too.
 ghost use Rattle.boxes.specs.Banded.{Banded, Proper};
 ghost use Rattle.boxes.specs.Cells.{SameCells, both, but_not, either, has, in_box, none, of_rect, on_largest, shifted};
 ghost use Rattle.boxes.specs.Laws.{Laws, OneForm};
 ghost use Rattle.boxes.specs.Moves.{staying};
 ghost use Rattle.boxes.specs.Regions.{RegionOf, Worked, box_at};
-ghost use Rattle.region.specs.Held.{held};
+ghost use Rattle.region.specs.Held.{AsRegion, held};
 ghost use Rattle.region.specs.Sets.{kept};
 ghost use Rattle.region.specs.Shifts.{Kept};
 ghost use Rattle.screen.specs.Rects.{holds, on_screen};
@@ -64,17 +64,6 @@ impl Region {
         self.boxes.as_slice()
     }
 
-    // The cells of a rectangle that are on the largest screen.
-    pub fn from_rect(rect: Rect) -> Region
-        ensures region { RegionOf (of_rect rect) (held result) }
-        ensures exact { SameCells (has (held result)) (of_rect rect) }
-    {
-        match CellBox::of_rect(rect) {
-            Some(b) => single(b),
-            None => Region::empty(),
-        }
-    }
-
     // What the operation keeps of two regions.
     pub fn combine(&self, operation: Operation, other: &Region) -> Region
         ensures { RegionOf (kept operation (held self.now) (held other.now)) (held result) }
@@ -111,7 +100,7 @@ impl Region {
         ensures region { RegionOf (λ x y. on_screen sides.width sides.height x y && on_largest x y) (held result) }
         ensures exact { SameCells (has (held result)) (λ x y. on_screen sides.width sides.height x y && on_largest x y) }
     {
-        Region::from_rect(sides.whole())
+        Region::from(sides.whole())
     }
 
     // The cells, moved by the distance from one corner to another. A cell that would leave the largest
@@ -151,18 +140,30 @@ impl Region {
     }
 }
 
+// The cells of a rectangle that are on the largest screen.
+impl From<Rect> for Region {
+    ghost from_gives = { AsRegion };
+
+    fn from(rect: Rect) -> Region {
+        match CellBox::of_rect(rect) {
+            Some(b) => single(b),
+            None => Region::empty(),
+        }
+    }
+}
+
 // Two squares that overlap at a corner.
 pub fn two_squares() -> Region
     ensures boxes { held result ≡ box_at 0 0 2 1 ∷ box_at 0 1 3 1 ∷ box_at 1 2 2 1 ∷ [] }
     ensures worked { Worked }
 {
-    let first = Region::from_rect(Rect {
+    let first = Region::from(Rect {
         x: 0,
         y: 0,
         w: 2,
         h: 2,
     });
-    let second = Region::from_rect(Rect {
+    let second = Region::from(Rect {
         x: 1,
         y: 1,
         w: 2,

@@ -6,6 +6,6 @@ use Rattle.region.proofs.regions.methods.two_squares.Goals as goal
 pub returns : goal.returns
 returns c =
     record {
-      boxes = two_boxes (held c.from_rect-first.result) (held c.from_rect-second.result) (held c.join.result) c.from_rect-first.ensures.exact c.from_rect-second.ensures.exact c.join.ensures;
+      boxes = two_boxes (held c.from-first.result) (held c.from-second.result) (held c.join.result) c.from-first.ensures.exact c.from-second.ensures.exact c.join.ensures;
       worked = worked;
     }
