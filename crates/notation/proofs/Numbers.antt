@@ -1,14 +1,15 @@
 -- What a number's spelling looks like, and that it can be read in one way.
-use Rattle.std.proofs.Common.{◌≡◌, ℕ, zero, suc, ◌+◌, ◌-◌, ◌*◌, ◌/◌, ◌%◌, ◌<◌, ◌≤◌, List, [], ◌∷◌, ◌++◌, map, length, get_or, take, drop, ◌==◌, MatchOption, sym, refl, ap, ◌∙◌, ⊎_elim, inl, inr, arith}
+use Rattle.std.proofs.Common.{◌≡◌, ℕ, zero, suc, ◌+◌, ◌-◌, ◌*◌, ◌/◌, ◌%◌, ◌<◌, ◌≤◌, List, [], ◌∷◌, ◌++◌, map, length, get_or, take, drop, ◌==◌, sym, refl, ap, ◌∙◌, ⊎_elim, inl, inr, arith}
 use Prim.Native.Nat.compare
 use lib.ListN.{length-map}
 use Rattle.std.specs.Int.Digits.{digits_of, number_from_digits, AllBelowBase}
 use Rattle.std.specs.Bool.{then_some}
 use Rattle.std.specs.Char.{IsNotAsciiDigit}
-use Rattle.std.proofs.lemmas.List.{map_push, take_more, take_rest, take_all}
+use Rattle.std.proofs.lemmas.List.{map_push, take_more, take_rest}
 use Rattle.std.proofs.lemmas.Bool.{cases_lt}
 use Rattle.std.proofs.lemmas.Int.Digits.{digits_of_step, number_digits_of, first_digits_of, all_below_base_digits_of}
-use Rattle.notation.specs.Decimal.{decimal, saturated}
+use Rattle.notation.specs.Decimal.{SpellsNumber, decimal, saturated}
+use Rattle.notation.specs.Reads.{Reads}
 
 -- the digits of a number, none for 0
 abbrev pub digits_text : ℕ → List ℕ
@@ -54,9 +55,6 @@ pub record Read (text : List ℕ) (i m : ℕ) : Type 0 where
   pub known : m ≡ saturated whole
   pub some : 0 < i → 0 < whole
 
-pub read_none : (text : List ℕ) → Read text 0 0
-read_none text = record { whole = 0; digits = refl; known = refl; some = λ h. absurd (omega arith) }
-
 pub read_more : (text : List ℕ) (i m tens end : ℕ) → (get_or text 0 0 ≡ 48 → ⊥) → i < length text → 48 ≤ get_or text i 0 → get_or text i 0 ≤ 57 → tens ≡ saturated (m * 10) → end ≡ saturated (tens + (get_or text i 0 - 48)) → Read text i m → Read text (i + 1) end
 read_more text i m tens end lead within low high t e r =
     let back : 48 + (get_or text i 0 - 48) ≡ get_or text i 0 = omega arith in
@@ -73,9 +71,6 @@ read_more text i m tens end lead within low high t e r =
     positive : 0 < r.whole * 10 + (get_or text i 0 - 48)
     positive = ⊎_elim (λ z. omega (arith, r.some z)) (λ z. first (omega arith)) (cases_lt 0 i)
 
-pub read_all : (text : List ℕ) (i m : ℕ) → 0 < length text → length text ≤ i → Read text i m → (n : ℕ) × (text ≡ decimal n) × (m ≡ saturated n)
-read_all text i m some h r = (r.whole, sym (take_all i text h) ∙ r.digits ∙ sym (decimal_some r.whole (r.some (omega arith))), r.known)
-
 digit_in : (ds : List ℕ) (i : ℕ) → AllBelowBase 10 ds → i < length ds → (48 ≤ get_or (map (λ d. 48 + d) ds) i 0) × (get_or (map (λ d. 48 + d) ds) i 0 ≤ 57)
 digit_in [] i u h = absurd (omega arith)
 digit_in (d ∷ ds) zero u h = (omega arith, omega (arith, u.0))
@@ -91,10 +86,10 @@ decimal_in (suc n) i h = digit_in (digits_of 10 (suc n)) i (all_below_base_digit
 pub no_space : (n k : ℕ) → k < length (decimal n) → get_or (decimal n) k 0 ≡ 32 → ⊥
 no_space n k h space = let d = decimal_in n k h in omega arith
 
-pub no_digit : (text : List ℕ) (i : ℕ) → i < length text → IsNotAsciiDigit (get_or text i 0) → (n : ℕ) → text ≡ decimal n → ⊥
-no_digit text i h f n e =
-    let d = decimal_in n i (omega (arith, ap length e)) in
-    let same : get_or text i 0 ≡ get_or (decimal n) i 0 = ap (λ t. get_or t i 0) e in
+pub no_digit : (text : List ℕ) (i : ℕ) → i < length text → IsNotAsciiDigit (get_or text i 0) → (m : ℕ) → SpellsNumber m text → ⊥
+no_digit text i h f m s =
+    let d = decimal_in s.0 i (omega (arith, ap length s.1)) in
+    let same : get_or text i 0 ≡ get_or (decimal s.0) i 0 = ap (λ t. get_or t i 0) s.1 in
     elim f [ inl low ↦ omega arith | inr high ↦ omega arith ]
 
 -- the first digit of a number that is not 0
@@ -109,10 +104,10 @@ first_digit (suc n) h = at (digits_of 10 (suc n)) (first_digits_of 10 (suc n) (o
 -- only 0 begins with the digit 0
 pub leading_zero :
     (text : List ℕ) → 1 ≤ length text → get_or text 0 0 ≡ 48
-    → MatchOption (then_some (length (take (length text - 1) (drop 1 text)) == 0) 0) ((n : ℕ) → text ≡ decimal n → ⊥) (λ m. (n : ℕ) × (text ≡ decimal n) × (m ≡ saturated n))
+    → Reads SpellsNumber (then_some (length (take (length text - 1) (drop 1 text)) == 0) 0) text
 leading_zero [] h z = absurd (omega arith)
 leading_zero (c ∷ []) h z = (0, (λ i. z i ∷ []), refl)
-leading_zero (c ∷ d ∷ text) h z = rw (take_rest (c ∷ d ∷ text) 1, compare.suc-zero) longer
+leading_zero (c ∷ d ∷ text) h z = rw (take_rest (c ∷ d ∷ text) 1, compare.suc-zero) (λ m s. longer s.0 s.1)
   where
     longer : (n : ℕ) → c ∷ d ∷ text ≡ decimal n → ⊥
     longer zero e = absurd (omega (arith, ap length e))

@@ -1,10 +1,11 @@
 -- What a byte string's spelling looks like, and that it can be read in one way.
-use Rattle.std.proofs.Common.{◌≡◌, ℕ, ◌+◌, ◌-◌, ◌*◌, ◌/◌, ◌%◌, ◌<◌, ◌≤◌, ◌==◌, cond, ltb, List, [], ◌∷◌, ◌++◌, length, get_or, take, drop, vec_items, Vec, MatchOption, sym, refl, ap, ◌∙◌, subst, arith}
+use Rattle.std.proofs.Common.{◌≡◌, ℕ, ◌+◌, ◌-◌, ◌*◌, ◌/◌, ◌%◌, ◌<◌, ◌≤◌, ◌==◌, cond, ltb, List, [], ◌∷◌, ◌++◌, length, get_or, take, drop, vec_items, Vec, sym, refl, ap, ◌∙◌, subst, arith}
 use Rattle.std.specs.declared.alloc.Global.{Global}
 use Rattle.std.specs.Bool.{then_some}
 use Rattle.std.proofs.lemmas.List.{append_assoc, append-nil, length-append, take_rest}
 use Rattle.std.proofs.lemmas.Bool.Decides.{nat_tests}
-use Rattle.notation.specs.Hex.{Bytes, hex_digit, hex_pairs, hex_of}
+use Rattle.notation.specs.Hex.{Bytes, SpellsPair, hex_digit, hex_pairs, hex_of}
+use Rattle.notation.specs.Reads.{ReadsBytes}
 
 pub pairs_append : (bs cs : List ℕ) → hex_pairs (bs ++ cs) ≡ hex_pairs bs ++ hex_pairs cs
 pairs_append [] cs = refl
@@ -41,13 +42,13 @@ unhex-hex_of (b ∷ bs) p = unhex-pairs (b ∷ bs) p
 -- where the rest of a text begins with no byte's digits, no bytes are written so
 pub no_pair :
     (text read rest : List ℕ) → 2 ≤ length rest → text ≡ hex_pairs read ++ rest
-    → ((b : ℕ) → b < 256 → get_or rest 0 0 ≡ hex_digit (b / 16) → get_or rest 1 0 ≡ hex_digit (b % 16) → ⊥)
+    → ((b : ℕ) → SpellsPair b (get_or rest 0 0 ∷ get_or rest 1 0 ∷ []) → ⊥)
     → (bs : List ℕ) → Bytes bs → text ≡ hex_pairs bs → ⊥
 no_pair text read rest more e f bs p g = behind read bs p (sym e ∙ g)
   where
     behind : (read bs : List ℕ) → Bytes bs → hex_pairs read ++ rest ≡ hex_pairs bs → ⊥
     behind [] [] p e = absurd (omega (arith, ap length e))
-    behind [] (b ∷ bs) p e = f b p.0 (ap (λ t. get_or t 0 0) e) (ap (λ t. get_or t 1 0) e)
+    behind [] (b ∷ bs) p e = f b (p.0, ap (λ t. get_or t 0 0 ∷ get_or t 1 0 ∷ []) e)
     behind (r ∷ read) [] p e = absurd (omega (arith, ap length e))
     behind (r ∷ read) (b ∷ bs) p e = behind read bs p.1 (ap (drop 2) e)
 
@@ -62,7 +63,7 @@ ReadSoFar text bs rest = Bytes bs × (text ≡ hex_pairs bs ++ rest)
 -- one more byte is read
 pub read_pair :
     (text bs rest end : List ℕ) (b : ℕ) → 2 ≤ length rest → ReadSoFar text bs rest
-    → (b < 256) × (get_or rest 0 0 ≡ hex_digit (b / 16)) × (get_or rest 1 0 ≡ hex_digit (b % 16)) → end ≡ bs ++ b ∷ []
+    → SpellsPair b (get_or rest 0 0 ∷ get_or rest 1 0 ∷ []) → end ≡ bs ++ b ∷ []
     → ReadSoFar text end (take (length rest - 2) (drop 2 rest))
 read_pair text bs [] end b more so d e = absurd (omega arith)
 read_pair text bs (h ∷ []) end b more so d e = absurd (omega arith)
@@ -75,7 +76,7 @@ read_pair text bs (h ∷ l ∷ rest) end b more so d e =
 -- all is read, or a digit is left over
 pub read_pairs :
     (text rest : List ℕ) (v : Vec ℕ Global) → length rest < 2 → ReadSoFar text (vec_items v) rest
-    → MatchOption (then_some (length rest == 0) v) ((bs : List ℕ) → Bytes bs → text ≡ hex_pairs bs → ⊥) (λ v. Bytes (vec_items v) × (text ≡ hex_pairs (vec_items v)))
+    → ReadsBytes hex_pairs (then_some (length rest == 0) v) text
 read_pairs text [] v h so = (so.0, so.1 ∙ append-nil (hex_pairs (vec_items v)))
 read_pairs text (c ∷ []) v h so = λ bs p e. omega (arith, ap length (sym so.1 ∙ e), length-append (hex_pairs (vec_items v)) (c ∷ []), length_pairs (vec_items v), length_pairs bs)
 read_pairs text (c ∷ d ∷ rest) v h so = absurd (omega arith)

@@ -1,4 +1,5 @@
 pub mod Decimal
 pub mod Formats
 pub mod Hex
+pub mod Reads
 pub mod Writes

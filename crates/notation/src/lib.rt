@@ -1,10 +1,11 @@
 // How the console writes bytes and numbers, and how it reads them.
 #![tactic(auto)]
 
-ghost use Rattle.std.specs.Prelude.{◌≡◌, ℕ, ◌/◌, ◌%◌, ◌<◌, List, length, IfOk, Decides, MatchOption, ◌≢◌, slice_index};
-ghost use Rattle.notation.specs.Decimal.{decimal, saturated};
+ghost use Rattle.std.specs.Prelude.{◌≡◌, ◌<◌, ◌∷◌, [], length, IfOk, Decides, ◌≢◌, slice_index};
+ghost use Rattle.notation.specs.Decimal.{SpellsNumber, decimal};
 ghost use Rattle.notation.specs.Formats.{name_of};
-ghost use Rattle.notation.specs.Hex.{Bytes, hex_digit, hex_pairs, hex_of};
+ghost use Rattle.notation.specs.Hex.{SpellsDigit, SpellsPair, hex_pairs, hex_of};
+ghost use Rattle.notation.specs.Reads.{Reads, ReadsBytes};
 ghost use Rattle.notation.specs.Writes.{Writes};
 
 mod hex_text;
@@ -48,7 +49,7 @@ pub fn number(heap: Global, n: usize) -> Result<String, AllocError>
 
 // The value of an upper-case digit; a lower-case one has none.
 fn digit_value(code: u8) -> Option<u8>
-    ensures { MatchOption result ((d : ℕ) → d < 16 → code ≢ hex_digit d) (λ d. (d < 16) × (code ≡ hex_digit d)) }
+    ensures { Reads SpellsDigit result code }
 {
     match code {
         b'0'..=b'9' => Some(code - b'0'),
@@ -59,7 +60,7 @@ fn digit_value(code: u8) -> Option<u8>
 
 // The byte that two digits write.
 fn byte(high: u8, low: u8) -> Option<u8>
-    ensures { MatchOption result ((b : ℕ) → b < 256 → high ≡ hex_digit (b / 16) → low ≢ hex_digit (b % 16)) (λ b. (b < 256) × (high ≡ hex_digit (b / 16)) × (low ≡ hex_digit (b % 16))) }
+    ensures { Reads SpellsPair result (high ∷ low ∷ []) }
 {
     let upper = digit_value(high)?;
     let lower = digit_value(low)?;
@@ -68,7 +69,7 @@ fn byte(high: u8, low: u8) -> Option<u8>
 
 // The bytes that a text of hexadecimal pairs writes, or `None` where it is no such text.
 fn parse_pairs(heap: Global, text: &[u8]) -> Result<Option<Vec<u8>>, AllocError>
-    ensures { IfOk result (λ o. MatchOption o ((bs : List ℕ) → Bytes bs → text.now ≢ hex_pairs bs) (λ v. Bytes v.items × (text.now ≡ hex_pairs v.items))) }
+    ensures { IfOk result (λ o. ReadsBytes hex_pairs o text.now) }
 {
     let mut bytes = Vec::with_capacity(heap, text.len() / 2)?;
     let mut rest = text;
@@ -84,7 +85,7 @@ fn parse_pairs(heap: Global, text: &[u8]) -> Result<Option<Vec<u8>>, AllocError>
 
 // The bytes that the text writes, or `None` where no bytes are written so.
 pub fn parse_hex(heap: Global, text: &[u8]) -> Result<Option<Vec<u8>>, AllocError>
-    ensures { IfOk result (λ o. MatchOption o ((bs : List ℕ) → Bytes bs → text.now ≢ hex_of bs) (λ v. Bytes v.items × (text.now ≡ hex_of v.items))) }
+    ensures { IfOk result (λ o. ReadsBytes hex_of o text.now) }
 {
     match text {
         [] => Ok(None),
@@ -96,7 +97,7 @@ pub fn parse_hex(heap: Global, text: &[u8]) -> Result<Option<Vec<u8>>, AllocErro
 // The number that the text writes, or `None` where no number is written so.
 // A number that does not fit is read as the largest that does.
 pub fn parse_number(text: &[u8]) -> Option<usize>
-    ensures { MatchOption result ((n : ℕ) → text.now ≢ decimal n) (λ m. (n : ℕ) × (text.now ≡ decimal n) × (m ≡ saturated n)) }
+    ensures { Reads SpellsNumber result text.now }
 {
     match text {
         [] => None,
@@ -109,7 +110,7 @@ pub fn parse_number(text: &[u8]) -> Option<usize>
 fn parse_digits(text: &[u8]) -> Option<usize>
     requires some { 0 < length text.now }
     requires leading { slice_index text.now 0 ≢ 48 }
-    ensures { MatchOption result ((n : ℕ) → text.now ≢ decimal n) (λ m. (n : ℕ) × (text.now ≡ decimal n) × (m ≡ saturated n)) }
+    ensures { Reads SpellsNumber result text.now }
 {
     let mut number: usize = 0;
     for code in text {
