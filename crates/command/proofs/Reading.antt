@@ -10,12 +10,12 @@ use Rattle.std.proofs.lemmas.Bool.{true≢false}
 use Rattle.std.proofs.lemmas.Bool.Decides.{Decides-eqb, nat_tests}
 use Rattle.std.proofs.lemmas.Slice.Eq.{HasBytesAt, text_from_reads}
 use Rattle.std.proofs.lemmas.Option.{MatchOption-at_none, MatchOption-at_some}
-use Rattle.notation.specs.Decimal.{decimal, saturated}
+use Rattle.notation.specs.Decimal.{SpellsBelow, SpellsNumber, decimal, saturated}
 use Rattle.notation.specs.Hex.{Bytes, hex_of}
+use Rattle.notation.specs.Reads.{Reads, ReadsBytes}
 use Rattle.notation.proofs.Numbers.{decimal_tells}
 use Rattle.notation.proofs.Pairs.{unhex, unhex-hex_of}
-use Rattle.command.specs.Grammar.{SpellsNumber, Spells, kind_word, read_limit}
-use Rattle.command.specs.Reads.{Reads}
+use Rattle.command.specs.Grammar.{Spells, kind_word, read_limit}
 use Rattle.command.specs.Spaces.{Unspaced, spaced}
 use Rattle.command.specs.Unspaced.{not_space, no_space_in}
 use Rattle.command.specs.declared.Command.{Command}
@@ -55,10 +55,14 @@ pub by_word :
     → P (spaced front rest) → P text
 by_word P front text word rest size letters e p = subst P (sym (e ∙ ap (λ t. spaced t rest) (text_from_reads word front size letters))) p
 
+-- a text that writes no number writes none below a limit
+pub not_below : (limit : ℕ) (text : List ℕ) → ((m : ℕ) → SpellsNumber m text → ⊥) → (n : ℕ) → SpellsBelow limit n text → ⊥
+not_below limit text h n s = h (saturated n) (n, s.1, refl)
+
 -- a number that is read is of fewer bits where it fits them
 pub narrow :
     {E : Type 0} (limit : ℕ) → limit < 2 ^ 64 → (text : List ℕ) (m : ℕ) (r : Result ℕ E) → SpellsNumber m text → OkIff r (m < limit) m
-    → Reads (λ n text. (n < limit) × (text ≡ decimal n)) (result_ok r) text
+    → Reads (SpellsBelow limit) (result_ok r) text
 narrow limit fits text m (Ok x) s o = let same : s.0 ≡ x = omega arith in (omega arith, s.1 ∙ ap decimal same)
 narrow limit fits text m (Err e) s o = λ n t. let same : s.0 ≡ n = decimal_tells s.0 n (sym s.1 ∙ t.1) in o (omega arith)
 
@@ -108,8 +112,7 @@ read_limited text (Some m) r s e = subst (λ z. Reads Spells z (spaced (codes "r
 
 pub described :
     (text : List ℕ) (o : Option (Vec ℕ Global)) (r : Option Command)
-    → MatchOption o ((bs : List ℕ) → Bytes bs → text ≡ hex_of bs → ⊥) (λ v. Bytes (vec_items v) × (text ≡ hex_of (vec_items v)))
-    → Kept (λ v. eqb (vec_len v) 16) Recognize o r → Reads Spells r (spaced (codes "format") text)
+    → ReadsBytes hex_of o text → Kept (λ v. eqb (vec_len v) 16) Recognize o r → Reads Spells r (spaced (codes "format") text)
 described text None r s e = missing r _ _ e (no_sixteen text (λ bs p l t. s bs p t))
 described text (Some v) r s e = subst (λ z. Reads Spells z (spaced (codes "format") text)) (sym e) (at (eqb (vec_len v) 16) (Decides-eqb (vec_len v) 16))
   where

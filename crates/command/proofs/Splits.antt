@@ -1,5 +1,5 @@
 -- A text is its first word, a space and the rest in one way only.
-use Rattle.std.proofs.Common.{◌≡◌, ℕ, suc, ◌+◌, ◌-◌, ◌<◌, false, cond, eqb, List, [], ◌∷◌, ◌++◌, length, get_or, take, drop, sym, refl, ap, ◌∙◌, arith}
+use Rattle.std.proofs.Common.{◌≡◌, ℕ, suc, ◌+◌, ◌-◌, ◌<◌, false, cond, eqb, List, [], ◌∷◌, ◌++◌, length, get_or, take, drop, Option, MatchOption, sym, refl, ap, ◌∙◌, arith}
 use Rattle.std.specs.List.{AllWithin, HoldsAt}
 use Rattle.std.proofs.lemmas.List.{drop_more, get_or_at, get_or-take, length-append, length-take, take-append-drop, take_rest}
 use Rattle.std.proofs.lemmas.Bool.Decides.{nat_tests}
@@ -29,6 +29,14 @@ behind_is (c ∷ word) rest h = rw (other c (h 0 (omega arith))) (behind_is word
 abbrev pub NoSpace : ℕ → Type 0
 NoSpace code = code ≡ 32 → ⊥
 
+-- the first space of the text stands there
+abbrev pub IsFirstSpace : List ℕ → ℕ → Type 0
+IsFirstSpace text i = (i < length text) × HoldsAt (λ code. code ≡ 32) text i × AllWithin NoSpace text 0 i
+
+-- the option is the place of the first space, or there is no space
+abbrev pub FirstSpace : Option ℕ → List ℕ → Type 0
+FirstSpace o text = MatchOption o (AllWithin NoSpace text 0 (length text)) (IsFirstSpace text)
+
 -- the space behind the first word
 pub space_at : (text word rest : List ℕ) → text ≡ spaced word rest → (length word < length text) × (get_or text (length word) 0 ≡ 32)
 space_at text word rest e =
@@ -40,7 +48,7 @@ no_split text none word rest e = let at = space_at text word rest e in none (len
 
 -- a text at its first space
 pub split :
-    (text : List ℕ) (i : ℕ) → (i < length text) × HoldsAt (λ code. code ≡ 32) text i × AllWithin NoSpace text 0 i
+    (text : List ℕ) (i : ℕ) → IsFirstSpace text i
     → Unspaced (take i text) × (text ≡ spaced (take i text) (take (length text - (i + 1)) (drop (i + 1) text)))
 split text i found = rw (take_rest text (i + 1)) (alone, whole)
   where

@@ -1,6 +1,6 @@
 -- Which text says what is done to a region.
 use Rattle.std.specs.Prelude.{◌≡◌, ℕ, ◌<◌, List, ◌++◌, codes}
-use Rattle.notation.specs.Decimal.{decimal}
+use Rattle.notation.specs.Decimal.{SpellsBelow, decimal}
 use Rattle.screen.specs.declared.rect.Rect.{Rect}
 use Rattle.command.specs.Spaces.{spaced}
 use Rattle.command.specs.declared.regions.Change.{Change}
@@ -22,7 +22,7 @@ operation_word Away = codes "away"
 
 -- the text is a short number, one of sixteen bits
 abbrev pub SpellsShort : ℕ → List ℕ → Type 0
-SpellsShort n text = (n < 65536) × (text ≡ decimal n)
+SpellsShort n text = SpellsBelow 65536 n text
 
 -- each of a rectangle's numbers is short
 abbrev pub AllShort : Rect → Type 0

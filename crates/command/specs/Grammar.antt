@@ -17,14 +17,6 @@ kind_word Ring = codes "ring"
 kind_word Batch = codes "batch"
 kind_word Pile = codes "pile"
 
--- the text is a number of eight bits
-abbrev pub SpellsByte : ℕ → List ℕ → Type 0
-SpellsByte n text = (n < 256) × (text ≡ decimal n)
-
--- the text is a number, and one that does not fit stands for the largest that does
-abbrev pub SpellsNumber : ℕ → List ℕ → Type 0
-SpellsNumber m text = (n : ℕ) × (text ≡ decimal n) × (m ≡ saturated n)
-
 -- the text is the word, a space and the bytes
 abbrev pub SpellsBytes : List ℕ → List ℕ → List ℕ → Type 0
 SpellsBytes word bs text = Bytes bs × (text ≡ word ++ (codes " " ++ hex_of bs))

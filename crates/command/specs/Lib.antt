@@ -2,6 +2,5 @@ pub mod Alone
 pub mod Changes
 pub mod Grammar
 pub mod Meaning
-pub mod Reads
 pub mod Spaces
 pub mod Unspaced

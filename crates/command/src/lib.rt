@@ -3,21 +3,21 @@
 
 ghost use Rattle.command.specs.Grammar.{Spells};
 ghost use Rattle.command.specs.Meaning.{Unambiguous};
-ghost use Rattle.command.specs.Reads.{Reads};
 ghost use Rattle.command.specs.Spaces.{spaced};
+ghost use Rattle.notation.specs.Reads.{Reads};
 ghost use Rattle.std.specs.Prelude.{◌≢◌, IfOk, MatchOption, codes};
 
 mod regions;
+mod split;
 mod word;
-mod words;
 
 use notation::parse_hex;
 use pixel::Format;
 pub use region::Operation;
 pub use regions::{Change, Name, RegionCommand, parse_region};
+use split::{first, split_word};
 use std::alloc::{AllocError, Global};
 use word::Word;
-use words::{first, split_word};
 
 // At most so many bytes are read at once.
 const READ_LIMIT: usize = 65536;
@@ -75,7 +75,8 @@ pub fn parse(heap: Global, text: &[u8]) -> Result<Option<Command>, AllocError>
 
 // A command of one word.
 fn lone(text: &[u8]) -> Option<Command>
-    ensures { MatchOption result ((text.now ≢ codes "flush") × (text.now ≢ codes "queue")) (λ c. Spells c text.now) }
+    ensures { MatchOption result ((text.now ≢ codes "flush") × (text.now ≢ codes "queue"))
+        (λ c. Spells c text.now) }
 {
     match text {
         b"flush" => Some(Command::Flush),
@@ -84,7 +85,7 @@ fn lone(text: &[u8]) -> Option<Command>
     }
 }
 
-// What stands behind `line `. The other forms have such functions too.
+// What stands behind `line `.
 fn line(text: &[u8]) -> Option<Command>
     ensures { Reads Spells result (spaced (codes "line") text.now) }
 {
@@ -92,6 +93,7 @@ fn line(text: &[u8]) -> Option<Command>
     Some(Command::Line(kind, usize::from_word(rest)?))
 }
 
+// What stands behind `read `.
 fn read(text: &[u8]) -> Option<Command>
     ensures { Reads Spells result (spaced (codes "read") text.now) }
 {
@@ -100,6 +102,7 @@ fn read(text: &[u8]) -> Option<Command>
         .map(Command::Read)
 }
 
+// What stands behind `pixel `.
 fn pixel(text: &[u8]) -> Option<Command>
     ensures { Reads Spells result (spaced (codes "pixel") text.now) }
 {
@@ -107,6 +110,7 @@ fn pixel(text: &[u8]) -> Option<Command>
     Some(Command::Pixel(format, u8::from_word(rest)?))
 }
 
+// What stands behind `format `.
 fn recognize(heap: Global, text: &[u8]) -> Result<Option<Command>, AllocError>
     ensures { IfOk result (λ o. Reads Spells o (spaced (codes "format") text.now)) }
 {

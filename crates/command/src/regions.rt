@@ -1,10 +1,10 @@
-// The commands on regions, in the same manner.
+// The commands that change the console's regions, one on a line.
 ghost use Rattle.command.specs.Alone.{RegionAlone};
 ghost use Rattle.command.specs.Changes.{SpellsChange, SpellsRect, SpellsRegionCommand};
-ghost use Rattle.command.specs.Reads.{Reads};
+ghost use Rattle.notation.specs.Reads.{Reads};
 
+use super::split::first;
 use super::word::Word;
-use super::words::first;
 use notation::is_word;
 use region::Operation;
 use screen::Rect;
@@ -48,6 +48,7 @@ pub fn parse_region(text: &[u8]) -> Option<RegionCommand>
     })
 }
 
+// What stands behind the name.
 fn change_of(text: &[u8]) -> Option<Change>
     ensures { Reads SpellsChange result text.now }
 {

@@ -1,10 +1,11 @@
 // Values that the console writes as one word.
 ghost use Rattle.command.specs.Changes.{SpellsShort, name_word, operation_word};
-ghost use Rattle.command.specs.Grammar.{SpellsByte, SpellsNumber, kind_word};
-ghost use Rattle.command.specs.Reads.{Reads};
+ghost use Rattle.command.specs.Grammar.{kind_word};
 ghost use Rattle.command.specs.Spaces.{Unspaced};
 ghost use Rattle.command.specs.Unspaced.{format_unspaced, kind_unspaced, name_unspaced, number_unspaced, operation_unspaced};
+ghost use Rattle.notation.specs.Decimal.{SpellsBelow, SpellsNumber};
 ghost use Rattle.notation.specs.Formats.{format_word};
+ghost use Rattle.notation.specs.Reads.{Reads};
 ghost use Rattle.std.specs.Prelude.{◌≡◌, ℕ, List};
 
 use super::Kind;
@@ -84,7 +85,7 @@ impl Word for Operation {
 }
 
 impl Word for u8 {
-    ghost spells = { SpellsByte };
+    ghost spells = { SpellsBelow 256 };
 
     ghost unspaced = { λ n text s. number_unspaced n text s.1 };
 

@@ -1,6 +1,6 @@
 use Rattle.std.proofs.Common.{◌≡◌, refl}
-use Rattle.notation.specs.Decimal.{decimal, saturated}
-use Rattle.command.specs.Grammar.{SpellsNumber, kind_word}
+use Rattle.notation.specs.Decimal.{SpellsNumber, decimal, saturated}
+use Rattle.command.specs.Grammar.{kind_word}
 use Rattle.command.specs.Unspaced.{kind_unspaced}
 use Rattle.command.proofs.Reading.{missing, no_line, no_rest}
 use Rattle.command.proofs.line.Goals as goal

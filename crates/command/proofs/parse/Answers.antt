@@ -1,6 +1,6 @@
 use Rattle.std.proofs.Common.{codes, rules, arith, IfOk}
 use Rattle.command.specs.Grammar.{Spells}
-use Rattle.command.specs.Reads.{Reads}
+use Rattle.notation.specs.Reads.{Reads}
 use Rattle.command.proofs.Reading.{by_word, lone_only, no_form}
 use Rattle.command.proofs.parse.Goals as goal
 

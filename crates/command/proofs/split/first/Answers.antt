@@ -1,5 +1,5 @@
 use Rattle.command.proofs.Reading.{missing, no_first}
-use Rattle.command.proofs.words.first.Goals as goal
+use Rattle.command.proofs.split.first.Goals as goal
 
 pub returns-in_err-from_word : goal.returns-in_err-from_word
 returns-in_err-from_word g c =
