@@ -16,7 +16,7 @@ use Rattle.notation.specs.Reads.{Reads, ReadsBytes}
 use Rattle.notation.proofs.Numbers.{decimal_tells}
 use Rattle.notation.proofs.Pairs.{unhex, unhex-hex_of}
 use Rattle.command.specs.Grammar.{Spells, kind_word, read_limit}
-use Rattle.command.specs.Spaces.{Unspaced, spaced}
+use Rattle.command.specs.Spaces.{Begins, Unspaced, spaced}
 use Rattle.command.specs.Unspaced.{not_space, no_space_in}
 use Rattle.command.specs.declared.Command.{Command}
 use Rattle.command.specs.declared.Command.TheVariants.{Line, Write, Read, Flush, Queue, Carry, Pixel, Describe, Recognize}
@@ -44,7 +44,7 @@ no_first Of unspaced text word rest u e h x word' rest' s e' = h x (subst (Of x)
 -- a rest that spells no value
 pub no_rest :
     {A B : Type 0} (Of : A → List ℕ → Type 0) (Behind : B → List ℕ → Type 0) → ((x : A) (text : List ℕ) → Of x text → Unspaced text)
-    → (text rest : List ℕ) (x : A) → (word : List ℕ) × Of x word × (text ≡ spaced word rest) → ((y : B) → Behind y rest → ⊥)
+    → (text rest : List ℕ) (x : A) → Begins Of x rest text → ((y : B) → Behind y rest → ⊥)
     → (x' : A) (word' rest' : List ℕ) → Of x' word' → text ≡ spaced word' rest' → (y : B) → Behind y rest' → ⊥
 no_rest Of Behind unspaced text rest x at h x' word' rest' s' e' y b =
     h y (subst (Behind y) (sym (same_rest text at.0 rest word' rest' (unspaced x at.0 at.1) at.2 (unspaced x' word' s') e')) b)

@@ -7,6 +7,12 @@ use Rattle.command.specs.declared.regions.Change.{Change}
 use Rattle.command.specs.declared.regions.Name.{Name}
 
 pub record RegionAlone : Type 0 where
-  pub name : (n m : Name) (c d : Change) (text : List ℕ) → SpellsRegion n c text → SpellsRegion m d text → n ≡ m
-  pub change : (n m : Name) (c d : Change) (text : List ℕ) → SpellsRegion n c text → SpellsRegion m d text → c ≡ d
-  pub command : (n : Name) (c : Change) (d : Command) (text : List ℕ) → SpellsRegion n c text → Spells d text → ⊥
+  pub name :
+      (n m : Name) (c d : Change) (text : List ℕ) → SpellsRegion n c text → SpellsRegion m d text
+      → n ≡ m
+  pub change :
+      (n m : Name) (c d : Change) (text : List ℕ) → SpellsRegion n c text → SpellsRegion m d text
+      → c ≡ d
+  pub command :
+      (n : Name) (c : Change) (d : Command) (text : List ℕ) → SpellsRegion n c text
+      → Spells d text → ⊥

@@ -30,15 +30,18 @@ AllShort rect = (rect.x < 65536) × (rect.y < 65536) × (rect.w < 65536) × (rec
 
 -- a rectangle's four numbers
 abbrev pub rect_text : Rect → List ℕ
-rect_text rect = spaced (decimal rect.x) (spaced (decimal rect.y) (spaced (decimal rect.w) (decimal rect.h)))
+rect_text rect =
+    spaced (decimal rect.x) (spaced (decimal rect.y) (spaced (decimal rect.w) (decimal rect.h)))
 
 abbrev pub SpellsRect : Rect → List ℕ → Type 0
 SpellsRect rect text = AllShort rect × (text ≡ rect_text rect)
 
 abbrev pub SpellsChange : Change → List ℕ → Type 0
 SpellsChange Empty text = text ≡ codes "empty"
-SpellsChange (ByRect operation rect) text = AllShort rect × (text ≡ spaced (operation_word operation) (rect_text rect))
-SpellsChange (ByRegion operation name) text = text ≡ spaced (operation_word operation) (name_word name)
+SpellsChange (ByRect operation rect) text =
+    AllShort rect × (text ≡ spaced (operation_word operation) (rect_text rect))
+SpellsChange (ByRegion operation name) text =
+    text ≡ spaced (operation_word operation) (name_word name)
 
 -- the text asks something of a region, and `rest` says what
 abbrev pub OfRegion : Name → List ℕ → List ℕ → Type 0

@@ -27,12 +27,14 @@ SpellsFormat bs text = (length bs ≡ 16) × SpellsBytes (codes "format") bs tex
 
 -- a line's number that does not fit stands for the largest that does
 abbrev pub Spells : Command → List ℕ → Type 0
-Spells (Line kind m) text = (n : ℕ) × (text ≡ codes "line " ++ (kind_word kind ++ (codes " " ++ decimal n))) × (m ≡ saturated n)
+Spells (Line kind m) text =
+    (n : ℕ) × (text ≡ codes "line " ++ (kind_word kind ++ (codes " " ++ decimal n))) × (m ≡ saturated n)
 Spells (Write v) text = SpellsBytes (codes "write") (vec_items v) text
 Spells (Read n) text = (n ≤ read_limit) × (text ≡ codes "read " ++ decimal n)
 Spells Flush text = text ≡ codes "flush"
 Spells Queue text = text ≡ codes "queue"
 Spells (Carry v) text = SpellsBytes (codes "carry") (vec_items v) text
-Spells (Pixel format v) text = (v < 256) × (text ≡ codes "pixel " ++ (format_word format ++ (codes " " ++ decimal v)))
+Spells (Pixel format v) text =
+    (v < 256) × (text ≡ codes "pixel " ++ (format_word format ++ (codes " " ++ decimal v)))
 Spells (Describe format) text = text ≡ codes "describe " ++ format_word format
 Spells (Recognize v) text = SpellsFormat (vec_items v) text

@@ -29,4 +29,5 @@ meaning (Describe format) = describe format
 meaning (Recognize v) = recognize (vec_items v)
 
 abbrev pub Unambiguous : Type 0
-Unambiguous = (c d : Command) (text : List ℕ) → Spells c text → Spells d text → meaning c ≡ meaning d
+Unambiguous =
+    (c d : Command) (text : List ℕ) → Spells c text → Spells d text → meaning c ≡ meaning d

@@ -1,5 +1,5 @@
 // A text, split behind its first word.
-ghost use Rattle.command.specs.Spaces.{Unspaced, spaced};
+ghost use Rattle.command.specs.Spaces.{Begins, Unspaced, spaced};
 ghost use Rattle.std.specs.Prelude.{◌≡◌, ℕ, List, MatchOption, ◌≢◌};
 
 use super::word::Word;
@@ -15,8 +15,9 @@ pub(crate) fn split_word(text: &[u8]) -> Option<(&[u8], &[u8])>
 
 // The value of the first word, and what stands behind its space.
 pub(crate) fn first<W: Word>(text: &[u8]) -> Option<(W, &[u8])>
-    ensures { MatchOption result ((x : W) (word rest : List ℕ) → W.spells x word → text.now ≢ spaced word rest)
-        (λ p. (word : List ℕ) × W.spells p.0 word × (text.now ≡ spaced word p.1.now)) }
+    ensures { MatchOption result
+        ((x : W) (word rest : List ℕ) → W.spells x word → text.now ≢ spaced word rest)
+        (λ p. Begins W.spells p.0 p.1.now text.now) }
 {
     let (word, rest) = split_word(text)?;
     Some((W::from_word(word)?, rest))
