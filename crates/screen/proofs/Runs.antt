@@ -45,11 +45,11 @@ run_part from count new before ys l long is =
 
 -- a part was copied from a block
 pub lay_part :
-    {X : Type 0} (at count from : ℕ) (block before ys : List X) → at + count ≤ length before → from + count ≤ length block
-    → ys ≡ take count (drop from block) → Run at count (laid block from at) before (put_mid at count before ys)
-lay_part at count from block before ys l f is =
-    let many : length ys ≡ count = ap length is ∙ grind (arith, places) in
-    run_part at count (laid block from at) before ys l many
+    {X : Type 0} (at count from many : ℕ) (block before ys : List X) → at + count ≤ length before → from + many ≤ length block → many ≡ count
+    → ys ≡ take many (drop from block) → Run at count (laid block from at) before (put_mid at count before ys)
+lay_part at count from many block before ys l f e is =
+    let long : length ys ≡ count = ap length is ∙ grind (arith, places) in
+    run_part at count (laid block from at) before ys l long
     (λ i d t.
     let back : from + (at + i - at) ≡ from + i = omega arith in
     ap (λ z. get_or z i d) is ∙ grind (arith, places) ∙ ap (λ z. get_or block z d) (sym back))

@@ -75,7 +75,8 @@ pub fn copy<T: Copy>(cells: &mut [T], sides: Sides, source: Rect, to: Corner) ->
     for i in 0..part.h {
         let row = if upwards { part.h - 1 - i } else { i };
         let from = sides.run(source.x, source.y + row, part.w);
-        cells.copy_within(from, sides.place(part.x, part.y + row));
+        let to = sides.run(part.x, part.y + row, part.w);
+        cells.copy_within(from, to.start);
     }
     Ok(())
 }
