@@ -1,4 +1,4 @@
-use Rattle.std.proofs.Common.{◌≡◌, ◌+◌, ◌*◌, ◌≤◌, ◌<◌, nat_lt, length, true, refl, sym, ap, ◌∙◌, arith}
+use Rattle.std.proofs.Common.{◌≡◌, ◌+◌, ◌*◌, nat_lt, true, refl, sym, ap, ◌∙◌, arith}
 use Rattle.screen.specs.Paints.{source_cell}
 use Rattle.screen.specs.Rects.{is_inside}
 use Rattle.screen.proofs.Rows.{one_row, all_rows, row_after, row_down, row_up, source_row}
