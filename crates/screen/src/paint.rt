@@ -9,7 +9,7 @@ use crate::rect::Rect;
 use crate::sides::Sides;
 use fault::Refusal;
 
-// Whether the memory has room for a screen with these sides.
+// Refuses memory that has no room for a screen with these sides.
 fn fits<T>(cells: &[T], sides: Sides) -> Result<(), Refusal>
     ensures { result_err result ≡ fill_refusal sides cells.now }
 {
