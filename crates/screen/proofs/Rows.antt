@@ -14,12 +14,6 @@ use Rattle.screen.proofs.Runs.{laid, Run}
 rows_apart : (w y z : ℕ) → y < z → y * w + w ≤ z * w
 rows_apart w y z l = let next : (y + 1) * w ≤ z * w = mul-le-mul_right w (omega arith) in omega arith
 
--- a part of a row is in the memory that has room for the screen
-pub row_fits :
-    (sides : Sides) (x y at count many : ℕ) → x + count ≤ sides.width → y < sides.height → at ≡ y * sides.width + x → sides.width * sides.height ≤ many
-    → at + count ≤ many
-row_fits sides x y at count many l b is room = omega (arith, rows_apart sides.width y sides.height b)
-
 -- a place of the screen is in the run of a row exactly if its cell is
 row_place :
     (w px c q x y : ℕ) → x < w → px + c ≤ w → within (q * w + px) c (y * w + x) ≡ (within px c x && within q 1 y)
@@ -114,10 +108,6 @@ all_rows sides up rect part n new before after cut e shows =
           shows.cells x y d t u ∙ ap (λ z. cond z (new x y d) (cell sides.width before x y d)) same;
       behind = shows.behind;
     }
-
--- a row of the block is in the block
-pub block_fits : (rect : Rect) (n from count many : ℕ) → count ≤ rect.w → n < rect.h → from ≡ n * rect.w → many ≡ rect.w * rect.h → from + count ≤ many
-block_fits rect n from count many l b is all = omega (arith, rows_apart rect.w n rect.h b)
 
 -- what a row of the block gives to the cells of its row
 pub block_row :

@@ -24,7 +24,7 @@ laid source from at k d = get_or source (from + (k - at)) d
 run_part :
     {X : Type 0} (from count : ℕ) (new : ℕ → X → X) (before ys : List X) → from + count ≤ length before → length ys ≡ count
     → ((i : ℕ) (d : X) → i < count → get_or ys i d ≡ new (from + i) d)
-    → Run from count new before (put_mid from (from + count - from) before ys)
+    → Run from count new before (put_mid from count before ys)
 run_part from count new before ys l long is =
     let to = from + count in
     record {
@@ -45,11 +45,11 @@ run_part from count new before ys l long is =
 
 -- a part was copied from a block
 pub lay_part :
-    {X : Type 0} (at count from : ℕ) (block before ys : List X) → at + count ≤ length before → from + count ≤ length block
-    → ys ≡ take (from + count - from) (drop from block) → Run at count (laid block from at) before (put_mid at (at + count - at) before ys)
-lay_part at count from block before ys l f is =
-    let many : length ys ≡ count = ap length is ∙ grind (arith, places) in
-    run_part at count (laid block from at) before ys l many
+    {X : Type 0} (at count from many : ℕ) (block before ys : List X) → at + count ≤ length before → from + many ≤ length block → many ≡ count
+    → ys ≡ take many (drop from block) → Run at count (laid block from at) before (put_mid at count before ys)
+lay_part at count from many block before ys l f e is =
+    let long : length ys ≡ count = ap length is ∙ grind (arith, places) in
+    run_part at count (laid block from at) before ys l long
     (λ i d t.
     let back : from + (at + i - at) ≡ from + i = omega arith in
     ap (λ z. get_or z i d) is ∙ grind (arith, places) ∙ ap (λ z. get_or block z d) (sym back))
@@ -57,7 +57,7 @@ lay_part at count from block before ys l f is =
 -- a part was copied within the memory, as it was
 pub shift_part :
     {X : Type 0} (from to count : ℕ) (before after : List X) → length after ≡ length before
-    → CopiedTo before after from to (from + count - from) × SameBelow before after to × SameFrom before after (to + (from + count - from))
+    → CopiedTo before after from to count × SameBelow before after to × SameFrom before after (to + count)
     → Run to count (laid before from to) before after
 shift_part from to count before after long is =
     record {
@@ -91,9 +91,9 @@ filled {F} step f last value (y ∷ ys) ran same i d l =
 -- a part was filled
 pub fill_part :
     {F X : Type 0} (step : F → X → F → Type 0) (f last : F) (at count : ℕ) (value : X) (before ys : List X) → at + count ≤ length before
-    → length ys ≡ length (take (at + count - at) (drop at before)) → FoldsTo step f ys last
+    → length ys ≡ length (take count (drop at before)) → FoldsTo step f ys last
     → ((x : X) (next : F) → step f x next → (x ≡ value) × (next ≡ f))
-    → Run at count (always value) before (put_mid at (at + count - at) before ys)
+    → Run at count (always value) before (put_mid at count before ys)
 fill_part step f last at count value before ys l long ran same =
     let many : length ys ≡ count = long ∙ grind (arith, places) in
     run_part at count (always value) before ys l many (λ i d t. filled step f last value ys ran same i d (omega arith))

@@ -9,19 +9,25 @@ use crate::rect::Rect;
 use crate::sides::Sides;
 use fault::Refusal;
 
+// Refuses memory that has no room for a screen with these sides.
+fn fits<T>(cells: &[T], sides: Sides) -> Result<(), Refusal>
+    ensures { result_err result ≡ fill_refusal sides cells.now }
+{
+    if cells.len() < sides.area() {
+        return Err(Refusal::Size);
+    }
+    Ok(())
+}
+
 // Gives each cell of the rectangle the value.
 pub fn fill<T: Copy>(cells: &mut [T], sides: Sides, rect: Rect, value: T) -> Result<(), Refusal>
     ensures refused { result_err result ≡ fill_refusal sides cells.old }
     ensures cases { MatchResult result (λ _. Painted sides rect (plain value) cells.old cells.new) (λ _. cells.new ≡ cells.old) }
 {
-    if cells.len() < sides.area() {
-        return Err(Refusal::Size);
-    }
+    fits(cells, sides)?;
     let part = rect.cut(sides);
-    let count = usize::from(part.w);
     for row in 0..part.h {
-        let at = sides.place(part.x, part.y + row);
-        cells[at..at + count].fill_with(|| value);
+        cells[sides.run(part.x, part.y + row, part.w)].fill_with(|| value);
     }
     Ok(())
 }
@@ -31,9 +37,7 @@ pub fn put<T: Copy>(cells: &mut [T], sides: Sides, rect: Rect, block: &[T]) -> R
     ensures refused { result_err result ≡ put_refusal sides cells.old rect block.now }
     ensures cases { MatchResult result (λ _. Painted sides rect (block_cell rect block.now) cells.old cells.new) (λ _. cells.new ≡ cells.old) }
 {
-    if cells.len() < sides.area() {
-        return Err(Refusal::Size);
-    }
+    fits(cells, sides)?;
     let block_sides = Sides {
         width: rect.w,
         height: rect.h,
@@ -42,11 +46,10 @@ pub fn put<T: Copy>(cells: &mut [T], sides: Sides, rect: Rect, block: &[T]) -> R
         return Err(Refusal::Block);
     }
     let part = rect.cut(sides);
-    let count = usize::from(part.w);
     for row in 0..part.h {
-        let from = block_sides.place(0, row);
-        let at = sides.place(part.x, part.y + row);
-        cells[at..at + count].copy_from_slice(&block[from..from + count]);
+        let from = block_sides.run(0, row, part.w);
+        let to = sides.run(part.x, part.y + row, part.w);
+        cells[to].copy_from_slice(&block[from]);
     }
     Ok(())
 }
@@ -58,9 +61,7 @@ pub fn copy<T: Copy>(cells: &mut [T], sides: Sides, source: Rect, to: Corner) ->
     ensures refused { result_err result ≡ copy_refusal sides cells.old source }
     ensures cases { MatchResult result (λ _. Painted sides (moved_to source to) (source_cell sides source to cells.old) cells.old cells.new) (λ _. cells.new ≡ cells.old) }
 {
-    if cells.len() < sides.area() {
-        return Err(Refusal::Size);
-    }
+    fits(cells, sides)?;
     if !source.inside(sides) {
         return Err(Refusal::Source);
     }
@@ -70,13 +71,12 @@ pub fn copy<T: Copy>(cells: &mut [T], sides: Sides, source: Rect, to: Corner) ->
         ..source
     };
     let part = target.cut(sides);
-    let count = usize::from(part.w);
     let upwards = source.y < part.y;
     for i in 0..part.h {
         let row = if upwards { part.h - 1 - i } else { i };
-        let from = sides.place(source.x, source.y + row);
-        let at = sides.place(part.x, part.y + row);
-        cells.copy_within(from..from + count, at);
+        let from = sides.run(source.x, source.y + row, part.w);
+        let to = sides.run(part.x, part.y + row, part.w);
+        cells.copy_within(from, to.start);
     }
     Ok(())
 }

@@ -1,8 +1,9 @@
 // The sides of a screen, which are any numbers of sixteen bits.
 ghost use Rattle.screen.specs.Rects.{holds, on_screen};
-ghost use Rattle.std.specs.Prelude.{◌≡◌, ℕ, ◌+◌, ◌*◌};
+ghost use Rattle.std.specs.Prelude.{◌≡◌, ℕ, ◌+◌, ◌*◌, ◌<◌, ◌≤◌};
 
 use crate::rect::Rect;
+use std::ops::Range;
 
 // A screen has `width` columns and `height` rows of cells. They lie row by row from the top left.
 #[derive(Clone, Copy, PartialEq, Eq, Hash, Debug)]
@@ -30,6 +31,17 @@ impl Sides {
         ensures { result ≡ y * self.width + x }
     {
         usize::from(y) * usize::from(self.width) + usize::from(x)
+    }
+
+    // The places of the `count` cells of the row `y` from the column `x` on.
+    pub(crate) fn run(self, x: u16, y: u16, count: u16) -> Range<usize>
+        requires { (x + count ≤ self.width) × (y < self.height) }
+        ensures start { result.start ≡ y * self.width + x }
+        ensures end { result.end ≡ result.start + count }
+        ensures within { result.end ≤ self.width * self.height }
+    {
+        let start = self.place(x, y);
+        start..start + usize::from(count)
     }
 
     // The rectangle of all cells.

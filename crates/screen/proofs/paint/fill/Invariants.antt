@@ -4,4 +4,4 @@ use Rattle.screen.proofs.Rows.{rows}
 use Rattle.screen.proofs.paint.fill.Given as goal
 
 abbrev pub invariant-loop-row : goal.invariant-loop-row
-invariant-loop-row g l = Shows l.sides (rows false l.part l.row) (plain l.value) l.initial.cells l.cells
+invariant-loop-row g l = Shows l.sides (rows false l.part l.row) (plain l.value) l.fn.cells l.cells
