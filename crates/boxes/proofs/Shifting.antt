@@ -1,6 +1,7 @@
 -- A region is shifted by cutting it to the cells that stay on the largest screen and moving the boxes.
 use Rattle.std.proofs.Common.{◌≡◌, ℕ, ◌+◌, ◌-◌, ◌<◌, ◌≤◌, Bool, true, false, ◌&&◌, ◌||◌, leb, ◌⊎◌, List, [], ◌∷◌, map, length, sym, refl, ap, ◌∙◌, subst, inl, inr, arith}
 use Rattle.std.specs.List.{AllByRecursion}
+use Rattle.std.proofs.Math.Bool.{or-false}
 use Rattle.std.proofs.lemmas.List.{length-map}
 use Rattle.std.proofs.lemmas.Bool.{and_from, and_left, and_parts, and_right, cases_Bool, leb-true}
 use Rattle.boxes.specs.declared.cell_box.CellBox.{CellBox}
@@ -16,7 +17,6 @@ use Rattle.boxes.proofs.Laws.{Held, cut_by_one, every_held, none_banded, region_
 use Rattle.boxes.proofs.Moving.{Stays, move_bands, move_shifted}
 use Rattle.boxes.proofs.One.{is_region, region_banded}
 use Rattle.boxes.proofs.Rules.{from_bands, to_bands}
-use Rattle.boxes.proofs.Unique.{or_false}
 
 -- a cell of a banded list is on the largest screen
 pub banded_seen : (bs : List CellBox) (x y : ℕ) → Banded bs → has bs x y ≡ true → (x < 256) × (y < 256)
@@ -83,7 +83,7 @@ module _ (fx fy tx ty : ℕ) where
       let k : CellBox = staying fx fy tx ty in
       same_under (on_largest x y) (leb tx (x + fx)) (leb ty (y + fy)) (has cs u v) (has bs u v)
       (λ on l t. elim (cases_Bool (has bs u v)) [
-        | inl h ↦ e u v ∙ and_from (has bs u v) (in_box k u v || false) h (or_false (in_box k u v) ∙ from_staying bs x y b on l t h) ∙ sym h
+        | inl h ↦ e u v ∙ and_from (has bs u v) (in_box k u v || false) h (or-false (in_box k u v) ∙ from_staying bs x y b on l t h) ∙ sym h
         | inr off ↦ e u v ∙ and_left (has bs u v) (in_box k u v || false) off ∙ sym off
       ])
 
@@ -94,7 +94,7 @@ module _ (fx fy tx ty : ℕ) where
       let k : CellBox = staying fx fy tx ty in
       let ms : List CellBox = map (move_box fx fy tx ty) cs in
       let all : HasAll (in_box k) (has cs) =
-      λ x y on. sym (or_false (in_box k x y)) ∙ (and_parts (has bs x y) (in_box k x y || false) (sym (e x y) ∙ on)).1 in
+      λ x y on. sym (or-false (in_box k x y)) ∙ (and_parts (has bs x y) (in_box k x y || false) (sym (e x y) ∙ on)).1 in
       let stay : AllByRecursion (Stays fx fy tx ty) cs = every_stays cs c.proper (every_held k cs c.proper all) in
       let banded : Banded ms = from_bands ms (move_bands fx fy tx ty cs (to_bands cs c) stay).0 in
       let same : SameCells (has ms) (shifted fx fy tx ty bs) =
@@ -118,7 +118,7 @@ module _ (fx fy tx ty : ℕ) where
   shift_empty bs b h =
       let k : CellBox = staying fx fy tx ty in
       shift_from bs [] b none_banded (omega arith)
-      (λ x y. sym (and_right (has bs x y) (in_box k x y || false) (or_false (in_box k x y) ∙ no_cells k h x y)))
+      (λ x y. sym (and_right (has bs x y) (in_box k x y || false) (or-false (in_box k x y) ∙ no_cells k h x y)))
 
   -- where no cell stays, the region of the cells shifted has no box
   pub shift_none : (bs : List CellBox) → Banded bs → Void (staying fx fy tx ty) → RegionOf (shifted fx fy tx ty bs) []

@@ -10,7 +10,7 @@ use Rattle.boxes.proofs.Drawing.{apart_from, drawn_pass}
 use Rattle.boxes.proofs.Unique.{drop_head, head_before, head_in}
 use Rattle.region.specs.declared.operation.Operation.{Operation}
 use Rattle.region.specs.declared.operation.Operation.TheVariants.{Join, Cut, Away}
-use Rattle.region.specs.Rows.{Fits, Merged, add_run, begun, edge_of, past_run, spans, start_of}
+use Rattle.region.specs.Rows.{Merged, add_run, begun, edge_of, past_run, spans, start_of}
 use Rattle.region.specs.Sets.{keeps}
 use Rattle.region.proofs.Adding.{drawn_add}
 
@@ -113,11 +113,8 @@ module _ (op : Operation) (ps qs rs ss : List CellBox) (x e : ℕ) (g : Along ps
       (λ on. drawn_add (kept_row op ps qs) x e row d lt top (λ v lo hi. merge_steady v lo hi ∙ on))
       (λ off. drawn_pass (kept_row op ps qs) x e row d lt (λ v lo hi. merge_steady v lo hi ∙ off))
 
-pub drawn_fits : (c : ℕ → Bool) (x : ℕ) (ss : List Span) → Drawn c x ss → x < 256 → Fits x ss
-drawn_fits c x ss d h = record { apart = d.apart; near = d.near; inside = h }
-
 -- at first nothing is drawn, and what is drawn in the end is the row
-none_kept : (op : Operation) → keeps op false false ≡ false
+pub none_kept : (op : Operation) → keeps op false false ≡ false
 none_kept Join = refl
 none_kept Cut = refl
 none_kept Away = refl
