@@ -23,7 +23,7 @@ fn moved(n: u16, from: u16, to: u16) -> u16
 impl Way {
     // The box of the cells that stay on the largest screen.
     pub(crate) fn staying(self) -> CellBox
-        ensures { result ≡ staying self.from.x self.from.y self.to.x self.to.y }
+        ensures { result ≡ staying self.from self.to }
     {
         let Way { from, to } = self;
         CellBox {
@@ -36,7 +36,7 @@ impl Way {
 
     // Moves a box that is lent.
     fn move_box(self, b: &mut CellBox)
-        ensures { b.new ≡ move_onto self.from.x self.from.y self.to.x self.to.y b.old }
+        ensures { b.new ≡ move_onto self.from self.to b.old }
     {
         let Way { from, to } = self;
         b.left = moved(b.left, from.x, to.x);
@@ -46,7 +46,7 @@ impl Way {
     }
 
     pub(crate) fn move_all(self, boxes: &mut [CellBox])
-        ensures { boxes.new ≡ map (move_onto self.from.x self.from.y self.to.x self.to.y) boxes.old }
+        ensures { boxes.new ≡ map (move_onto self.from self.to) boxes.old }
     {
         for b in boxes.iter_mut() {
             self.move_box(b);

@@ -101,7 +101,7 @@ impl<const N: usize> Few<N> {
 
     // Moves each box.
     pub(crate) fn shift(&mut self, way: Way)
-        ensures { listed self.new ≡ map (move_onto way.from.x way.from.y way.to.x way.to.y) (listed self.old) }
+        ensures { listed self.new ≡ map (move_onto way.from way.to) (listed self.old) }
     {
         let count = self.count;
         way.move_all(&mut self.boxes[..count]);

@@ -35,7 +35,7 @@ fn any_meets(boxes: &[CellBox], other: &CellBox) -> bool
 
 // The cells that stay on the largest screen when they are moved.
 fn staying_cells(way: Way) -> Region
-    ensures { Kept (staying way.from.x way.from.y way.to.x way.to.y) (held result) }
+    ensures { Kept (staying way.from way.to) (held result) }
 {
     let b = way.staying();
     if b.left < b.right && b.top < b.bottom {
@@ -106,8 +106,8 @@ impl Region {
     // The cells, moved by the distance from one corner to another. A cell that would leave the largest
     // screen on any side is dropped; the corners may be any. A shift never adds boxes.
     pub fn shift(&self, from: Corner, to: Corner) -> Region
-        ensures region { RegionOf (shifted from.x from.y to.x to.y (held self.now)) (held result) }
-        ensures exact { SameCells (has (held result)) (shifted from.x from.y to.x to.y (held self.now)) }
+        ensures region { RegionOf (shifted from to (held self.now)) (held result) }
+        ensures exact { SameCells (has (held result)) (shifted from to (held self.now)) }
     {
         let way = Way { from, to };
         let mut part = self.cut(&staying_cells(way));

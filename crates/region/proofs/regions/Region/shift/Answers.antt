@@ -8,13 +8,13 @@ use Rattle.region.proofs.regions.Region.shift.Goals as goal
 pub invariant_of-part : goal.invariant_of-part
 invariant_of-part c =
     let r = c.args.self.now in
-    let m = shift_moves c.args.from.x c.args.from.y c.args.to.x c.args.to.y (held r) (held c.staying_cells.result) (held c.cut-part.result) (listed c.shift.new.self)
+    let m = shift_moves c.args.from c.args.to (held r) (held c.staying_cells.result) (held c.cut-part.result) (listed c.shift.new.self)
     (given (held r) r.banded) (at_most r.boxes) c.staying_cells.ensures c.cut-part.ensures c.shift.ensures in
     record { banded = ∣ m.banded ∣₁ }
 
 pub returns : goal.returns
 returns c =
     let r = c.args.self.now in
-    let m = shift_moves c.args.from.x c.args.from.y c.args.to.x c.args.to.y (held r) (held c.staying_cells.result) (held c.cut-part.result) (listed c.shift.new.self)
+    let m = shift_moves c.args.from c.args.to (held r) (held c.staying_cells.result) (held c.cut-part.result) (listed c.shift.new.self)
     (given (held r) r.banded) (at_most r.boxes) c.staying_cells.ensures c.cut-part.ensures c.shift.ensures in
     record { region = m.region; exact = m.exact }

@@ -4,10 +4,10 @@ use Rattle.region.proofs.way.Way.move_all.Goals as goal
 
 pub loop-b-preserved : goal.loop-b-preserved
 loop-b-preserved c =
-    map_more (move_onto c.args.self.from.x c.args.self.from.y c.args.self.to.x c.args.self.to.y) c.args.boxes.now c.loop-b.boxes c.loop-b.b-index c.move_box.new.b
+    map_more (move_onto c.args.self.from c.args.self.to) c.args.boxes.now c.loop-b.boxes c.loop-b.b-index c.move_box.new.b
     c.loop-b-test.true c.loop-b.auto.boxes c.loop-b.invariant c.move_box.ensures
 
 pub returns : goal.returns
 returns c =
-    map_all (move_onto c.args.self.from.x c.args.self.from.y c.args.self.to.x c.args.self.to.y) c.args.boxes.now c.loop-b.boxes c.loop-b.b-index
+    map_all (move_onto c.args.self.from c.args.self.to) c.args.boxes.now c.loop-b.boxes c.loop-b.b-index
     c.loop-b-test.false c.loop-b.invariant

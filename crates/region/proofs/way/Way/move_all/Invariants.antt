@@ -4,5 +4,5 @@ use Rattle.region.proofs.way.Way.move_all.Given as goal
 
 abbrev pub invariant-loop-b : goal.invariant-loop-b
 invariant-loop-b l =
-    let step = move_onto l.self.from.x l.self.from.y l.self.to.x l.self.to.y in
+    let step = move_onto l.self.from l.self.to in
     l.boxes ≡ map step (take l.b-index l.initial.boxes) ++ drop l.b-index l.initial.boxes
