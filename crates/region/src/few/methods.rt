@@ -84,8 +84,7 @@ impl<const N: usize> Few<N> {
         ensures { listed self.new ≡ widened_last right (listed self.old) }
     {
         if self.count > 0 {
-            let last = &mut self.boxes[self.count - 1];
-            last.right = right;
+            self.boxes[self.count - 1].right = right;
         }
     }
 
@@ -94,8 +93,7 @@ impl<const N: usize> Few<N> {
         requires { start ≤ length (listed self.old) }
         ensures { listed self.new ≡ take start (listed self.old) ++ lower_all bottom (drop start (listed self.old)) }
     {
-        let count = self.count;
-        let boxes = &mut self.boxes[..count];
+        let boxes = &mut self.boxes[..self.count];
         lower_all(&mut boxes[start..], bottom);
     }
 
@@ -103,7 +101,6 @@ impl<const N: usize> Few<N> {
     pub(crate) fn shift(&mut self, way: Way)
         ensures { listed self.new ≡ map (move_onto way.from way.to) (listed self.old) }
     {
-        let count = self.count;
-        way.move_all(&mut self.boxes[..count]);
+        way.move_all(&mut self.boxes[..self.count]);
     }
 }
