@@ -1,7 +1,7 @@
 // The way that cells are moved: by the distance from one corner to another.
 ghost use Rattle.boxes.specs.Moves.{staying};
 ghost use Rattle.region.specs.Shifts.{move_onto};
-ghost use Rattle.std.specs.Prelude.{◌≡◌, ◌+◌, ◌-◌, min, map};
+ghost use Rattle.std.specs.Prelude.{◌≡◌, ◌+◌, ◌-◌, min};
 
 use boxes::CellBox;
 use screen::Corner;
@@ -34,22 +34,16 @@ impl Way {
         }
     }
 
-    // Moves a box that is lent.
-    fn move_box(self, b: &mut CellBox)
-        ensures { b.new ≡ move_onto self.from self.to b.old }
+    // Where a box comes to, on the largest screen.
+    pub(crate) fn moved(self, b: CellBox) -> CellBox
+        ensures { result ≡ move_onto self.from self.to b }
     {
         let Way { from, to } = self;
-        b.left = moved(b.left, from.x, to.x);
-        b.top = moved(b.top, from.y, to.y);
-        b.right = moved(b.right, from.x, to.x);
-        b.bottom = moved(b.bottom, from.y, to.y);
-    }
-
-    pub(crate) fn move_all(self, boxes: &mut [CellBox])
-        ensures { boxes.new ≡ map (move_onto self.from self.to) boxes.old }
-    {
-        for b in boxes.iter_mut() {
-            self.move_box(b);
+        CellBox {
+            left: moved(b.left, from.x, to.x),
+            top: moved(b.top, from.y, to.y),
+            right: moved(b.right, from.x, to.x),
+            bottom: moved(b.bottom, from.y, to.y),
         }
     }
 }
