@@ -1,11 +1,11 @@
 -- How a region is shifted.
-use Rattle.std.specs.Prelude.{◌≡◌, ◌+◌, ◌-◌, min, cond, ◌&&◌, List, [], ◌∷◌, nat_lt}
+use Rattle.std.specs.Prelude.{◌+◌, ◌-◌, min, Bool, ◌&&◌, nat_lt}
 use Rattle.screen.specs.declared.corner.Corner.{Corner}
 use Rattle.boxes.specs.declared.cell_box.CellBox.{CellBox}
 
--- the boxes are that box, or none where it has no cell
-abbrev pub Kept : CellBox → List CellBox → Type 0
-Kept b rs = rs ≡ cond (nat_lt b.left b.right && nat_lt b.top b.bottom) (b ∷ []) []
+-- the box has a cell
+abbrev pub has_cells : CellBox → Bool
+has_cells b = nat_lt b.left b.right && nat_lt b.top b.bottom
 
 -- a box moved by the distance from one corner to another, held on the largest screen
 abbrev pub move_onto : Corner → Corner → CellBox → CellBox

@@ -1,7 +1,9 @@
 // The way that cells are moved: by the distance from one corner to another.
+ghost use Rattle.boxes.specs.Banded.{Proper};
 ghost use Rattle.boxes.specs.Moves.{staying};
-ghost use Rattle.region.specs.Shifts.{move_onto};
-ghost use Rattle.std.specs.Prelude.{◌≡◌, ◌+◌, ◌-◌, min};
+ghost use Rattle.region.specs.Shifts.{has_cells, move_onto};
+ghost use Rattle.std.specs.Prelude.{◌≡◌, ◌+◌, ◌-◌, min, IfSome};
+ghost use Rattle.std.specs.Bool.{then_some};
 
 use boxes::CellBox;
 use screen::Corner;
@@ -21,17 +23,19 @@ fn moved(n: u16, from: u16, to: u16) -> u16
 }
 
 impl Way {
-    // The box of the cells that stay on the largest screen.
-    pub(crate) fn staying(self) -> CellBox
-        ensures { result ≡ staying self.from self.to }
+    // The box of the cells that stay on the largest screen, if any do.
+    pub(crate) fn staying(self) -> Option<CellBox>
+        ensures value { result ≡ then_some (has_cells (staying self.from self.to)) (staying self.from self.to) }
+        ensures proper { IfSome result Proper }
     {
         let Way { from, to } = self;
-        CellBox {
+        let b = CellBox {
             left: from.x.saturating_sub(to.x),
             top: from.y.saturating_sub(to.y),
             right: 256u16.saturating_sub(to.x.saturating_sub(from.x)),
             bottom: 256u16.saturating_sub(to.y.saturating_sub(from.y)),
-        }
+        };
+        (b.left < b.right && b.top < b.bottom).then_some(b)
     }
 
     // Where a box comes to, on the largest screen.
