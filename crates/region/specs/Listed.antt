@@ -16,6 +16,6 @@ widened_last r [] = []
 widened_last r (b ∷ []) = widened r b ∷ []
 widened_last r (b ∷ c ∷ bs) = b ∷ widened_last r (c ∷ bs)
 
--- what is called gives what f says
+-- each result that R allows for a box is the one that f gives
 abbrev pub Gives : (CellBox → CellBox → Type 0) → (CellBox → CellBox) → Type 0
 Gives R f = (b r : CellBox) → R b r → r ≡ f b
