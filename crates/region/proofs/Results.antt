@@ -18,8 +18,6 @@ use Rattle.region.specs.declared.operation.Operation.{Operation}
 use Rattle.region.specs.declared.drawn.Drawn.{Drawn}
 use Rattle.region.specs.declared.few.Few.{Few}
 use Rattle.region.specs.declared.work.Work.{Work}
-use Rattle.region.specs.declared.regions.Region.{Region}
-use Rattle.region.specs.Held.{held}
 use Rattle.region.specs.Listed.{listed}
 use Rattle.region.specs.Sets.{keeps, kept}
 use Rattle.region.specs.Sweeps.{Painting}
@@ -104,11 +102,11 @@ module _ (op : Operation) (ps qs : List CellBox) (p : Banded ps) (q : Banded qs)
       go None over e = many_region over (listed few) e
       go (Some b) drawn e = subst (λ f. RegionOf (kept op ps qs) (listed f)) (sym e) (few_region b drawn)
 
--- of two regions' boxes
+-- whatever the two lists are called
 pub combined :
-    (op : Operation) (p q : Region) (ps qs : List CellBox) (w : Work) (few : Few 32) → ps ≡ held p → qs ≡ held q → Banded ps → Banded qs
-    → Painting (kept op ps qs) 256 w → MatchOption w.drawn (listed few ≡ w.hull ∷ []) (λ b. few ≡ b.boxes) → RegionOf (kept op (held p) (held q)) (listed few)
-combined op p q ps qs w few e f b c d is = subst₂ (λ l m. RegionOf (kept op l m) (listed few)) e f (work_region op ps qs b c w d few is)
+    (op : Operation) (as' bs ps qs : List CellBox) (w : Work) (few : Few 32) → ps ≡ as' → qs ≡ bs → Banded ps → Banded qs → Painting (kept op ps qs) 256 w
+    → MatchOption w.drawn (listed few ≡ w.hull ∷ []) (λ b. few ≡ b.boxes) → RegionOf (kept op as' bs) (listed few)
+combined op as' bs ps qs w few e f b c d is = subst₂ (λ l m. RegionOf (kept op l m) (listed few)) e f (work_region op ps qs b c w d few is)
 
 -- the join of two rectangles' regions, from their cells
 pub joined_rects :
