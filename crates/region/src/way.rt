@@ -2,8 +2,8 @@
 ghost use Rattle.boxes.specs.Banded.{Proper};
 ghost use Rattle.boxes.specs.Moves.{staying};
 ghost use Rattle.region.specs.Shifts.{has_cells, move_onto};
-ghost use Rattle.std.specs.Prelude.{◌≡◌, ◌+◌, ◌-◌, min, IfSome};
 ghost use Rattle.std.specs.Bool.{then_some};
+ghost use Rattle.std.specs.Prelude.{◌≡◌, ◌+◌, ◌-◌, min, IfSome};
 
 use boxes::CellBox;
 use screen::Corner;

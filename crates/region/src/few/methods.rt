@@ -1,8 +1,8 @@
 // What a few boxes do.
 ghost use Rattle.boxes.specs.Strips.{lower_all};
+ghost use Rattle.boxes.specs.declared.cell_box.CellBox.{CellBox};
 ghost use Rattle.region.specs.Listed.{Gives, listed, widened_last};
 ghost use Rattle.region.specs.Shifts.{move_onto};
-ghost use Rattle.boxes.specs.declared.cell_box.CellBox.{CellBox};
 ghost use Rattle.std.specs.Prelude.{◌≡◌, ◌+◌, ◌<◌, ◌≤◌, [], ◌∷◌, ◌++◌, drop, length, map, take};
 
 use super::Few;
