@@ -1,6 +1,7 @@
 -- Strips of rows, added one by one below a stack of bands.
 use Rattle.std.proofs.Common.{◌≡◌, ℕ, suc, ◌+◌, ◌<◌, ◌≤◌, Bool, true, false, ◌&&◌, eqb, ◌≢◌, List, [], ◌∷◌, ◌++◌, length, sym, refl, ap, ◌∙◌, subst, inl, inr, arith}
 use Rattle.std.specs.List.{AllByRecursion}
+use Rattle.std.proofs.Math.Bool.{and-true}
 use Rattle.std.proofs.lemmas.List.{length-append}
 use Rattle.std.proofs.lemmas.Bool.{cases_lt, cases_Bool, false≢true, both_ways, eqb-true, and_parts, and_right, or_cases, cond_both, eq-eqb}
 use Rattle.std.proofs.lemmas.Bool.Decides.{nat_tests}
@@ -194,10 +195,6 @@ stack_seen bs x y k h =
       elim (cases_lt y 256) [ inl lt ↦ lt | inr ge ↦ absurd (false≢true (ap (λ l. in_spans l x) (sym (row_before 256 [] bs y k ge)) ∙ on)) ],
     )
 
-pub and_true : (a : Bool) → (a && true) ≡ a
-and_true true = refl
-and_true false = refl
-
 pub seen_largest : (x y : ℕ) → x < 256 → y < 256 → on_largest x y ≡ true
 seen_largest x y h k = grind (arith, nat_tests)
 
@@ -216,6 +213,6 @@ pub painted_cells : (c : ℕ → ℕ → Bool) (bs : List Band) → Painted c 25
 painted_cells c bs d x y =
     elim (cases_Bool (on_largest x y)) [
       | inl on ↦ (let s = largest_seen x y on in
-          has_flat 256 [] bs x y d.stack ∙ d.cells x y s.0 s.1 ∙ sym (ap (λ v. c x y && v) on ∙ and_true (c x y)))
+          has_flat 256 [] bs x y d.stack ∙ d.cells x y s.0 s.1 ∙ sym (ap (λ v. c x y && v) on ∙ and-true (c x y)))
       | inr off ↦ unseen bs x y d.stack off ∙ sym (and_right (c x y) (on_largest x y) off)
     ]

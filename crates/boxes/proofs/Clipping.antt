@@ -1,5 +1,6 @@
 -- A stack of bands, cut by one box, has no more boxes.
 use Rattle.std.proofs.Common.{◌≡◌, ℕ, ◌+◌, ◌<◌, ◌≤◌, min, max, Bool, true, false, cond, ◌&&◌, ◌||◌, ltb, List, [], ◌∷◌, length, sym, refl, ap, ◌∙◌, ap₂, inl, inr, arith}
+use Rattle.std.proofs.Math.Bool.{and-true}
 use Rattle.std.proofs.lemmas.Bool.{and_left, and_right, cases_Bool, cases_lt, cond_both, ltb-false, ltb-true}
 use Rattle.std.proofs.lemmas.Bool.Decides.{nat_tests}
 use Rattle.boxes.specs.declared.cell_box.CellBox.{CellBox}
@@ -7,7 +8,7 @@ use Rattle.boxes.specs.Banded.{Span}
 use Rattle.boxes.specs.Bands.{Apart, Band, ByBands, Stack, flat, in_spans, row_of}
 use Rattle.boxes.specs.Cells.{SameCells, between, has, has_row, in_box, on_largest}
 use Rattle.boxes.specs.Strips.{Painted, add_band}
-use Rattle.boxes.proofs.Adding.{and_true, length_add, length_flat, painted_add, painted_cells, painted_like, painted_skip, seen_largest, stack_close, stack_seen}
+use Rattle.boxes.proofs.Adding.{length_add, length_flat, painted_add, painted_cells, painted_like, painted_skip, seen_largest, stack_close, stack_seen}
 use Rattle.boxes.proofs.Drawing.{apart_from}
 use Rattle.boxes.proofs.Unique.{below, beyond, has_flat, inside, row_before, row_lead, row_past}
 
@@ -87,7 +88,7 @@ cut_off k bs x y off = and_right (in_spans (row_of bs y) x) (in_box k x y) (and_
 cut_on : (k : CellBox) (b : Band) (bs : List Band) (x y : ℕ) → has_row k y ≡ true → b.top ≤ y → y < b.bottom → in_spans (clip_runs k.left k.right b.row) x ≡ cut k (b ∷ bs) x y
 cut_on k b bs x y on lo hi =
     clip_cells k.left k.right b.row x
-    ∙ ap₂ ◌&&◌ (ap (λ l. in_spans l x) (sym (row_lead b bs y lo hi))) (sym (ap (λ v. between k.left k.right x && v) on ∙ and_true (between k.left k.right x)))
+    ∙ ap₂ ◌&&◌ (ap (λ l. in_spans l x) (sym (row_lead b bs y lo hi))) (sym (ap (λ v. between k.left k.right x && v) on ∙ and-true (between k.left k.right x)))
 
 cut_above : (k : CellBox) (b : Band) (bs : List Band) (x y : ℕ) → b.top ≤ y → y < max k.top b.top → cut k (b ∷ bs) x y ≡ false
 cut_above k b bs x y lo hi = cut_off k (b ∷ bs) x y (below k.top k.bottom y (omega arith))
@@ -134,7 +135,7 @@ largest : (bs : List Band) (k : CellBox) (x y : ℕ) → Stack 256 [] bs → ((h
 largest bs k x y s =
     elim (cases_Bool (has (flat bs) x y)) [
       | inl on ↦ (let e = stack_seen bs x y s on in
-          ap (λ v. (has (flat bs) x y && in_box k x y) && v) (seen_largest x y e.0 e.1) ∙ and_true (has (flat bs) x y && in_box k x y))
+          ap (λ v. (has (flat bs) x y && in_box k x y) && v) (seen_largest x y e.0 e.1) ∙ and-true (has (flat bs) x y && in_box k x y))
       | inr off ↦ and_left (has (flat bs) x y && in_box k x y) (on_largest x y) (and_left (has (flat bs) x y) (in_box k x y) off) ∙ sym (and_left (has (flat bs) x y) (in_box k x y) off)
     ]
 

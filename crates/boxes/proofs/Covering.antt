@@ -1,5 +1,6 @@
 -- The covering box of a banded list: it is the least over the cells, and each of its sides stands at one.
 use Rattle.std.proofs.Common.{◌≡◌, ℕ, ◌+◌, ◌-◌, ◌<◌, ◌≤◌, min, max, true, leb, List, [], ◌∷◌, length, sym, ◌∙◌, subst, inl, inr, arith}
+use Rattle.std.proofs.Math.Bool.{or-false}
 use Rattle.std.proofs.lemmas.Bool.{and_from, and_parts, cases_lt, cond_both, or_cases, or_left, or_right}
 use Rattle.std.specs.List.{AllByRecursion}
 use Rattle.boxes.specs.declared.cell_box.CellBox.{CellBox}
@@ -7,7 +8,7 @@ use Rattle.boxes.specs.Banded.{Banded, Proper}
 use Rattle.boxes.specs.Cells.{between, has, has_row, in_box}
 use Rattle.boxes.specs.Regions.{Covers, Least, covering, hull, limited}
 use Rattle.boxes.proofs.Rules.{box_banded}
-use Rattle.boxes.proofs.Unique.{between_true, inside, or_false}
+use Rattle.boxes.proofs.Unique.{between_true, inside}
 
 -- a box by its sides
 pub box_parts : (k : CellBox) (x y : ℕ) → in_box k x y ≡ true → (k.left ≤ x) × (x < k.right) × (k.top ≤ y) × (y < k.bottom)
@@ -45,13 +46,6 @@ cover_within bs k j p q =
     let b' = box_parts j b.0 b.1 (q b.0 b.1 b.3) in
     ((box_parts j k.left l.0 (q k.left l.0 l.1)).0, (box_parts j t.0 k.top (q t.0 k.top t.1)).2, omega (arith, r'.1, r.2), omega (arith, b'.3, b.2))
 
--- two covers of a list are one box
-pub cover_same : (bs : List CellBox) (k j : CellBox) → Cover bs k → Cover bs j → k ≡ j
-cover_same bs k j p q =
-    let a = cover_within bs k j p q.around in
-    let b = cover_within bs j k q p.around in
-    box_same k j (omega arith) (omega arith) (omega arith) (omega arith)
-
 -- a cover is the least box over the cells
 pub cover_least : (bs : List CellBox) (k : CellBox) → Cover bs k → Least bs k
 cover_least bs k c =
@@ -66,11 +60,11 @@ cover_least bs k c =
 -- the cover of one box, and of one box more
 box_cover : (b : CellBox) → Proper b → Cover (b ∷ []) b
 box_cover b p =
-    let at : (x y : ℕ) → in_box b x y ≡ true → has (b ∷ []) x y ≡ true = λ x y h. or_false (in_box b x y) ∙ h in
+    let at : (x y : ℕ) → in_box b x y ≡ true → has (b ∷ []) x y ≡ true = λ x y h. or-false (in_box b x y) ∙ h in
     let x : ℕ = b.right - 1 in
     let y : ℕ = b.bottom - 1 in
     record {
-      around = λ x y h. sym (or_false (in_box b x y)) ∙ h;
+      around = λ x y h. sym (or-false (in_box b x y)) ∙ h;
       left = (b.top, at b.left b.top (box_from b b.left b.top (omega arith) (omega arith) (omega arith) (omega arith)));
       top = (b.left, at b.left b.top (box_from b b.left b.top (omega arith) (omega arith) (omega arith) (omega arith)));
       right = (x, y, omega arith, at x y (box_from b x y (omega arith) (omega arith) (omega arith) (omega arith)));
@@ -95,7 +89,7 @@ hull_cover : (b : CellBox) (bs : List CellBox) (k : CellBox) → Proper b → Co
 hull_cover b bs k p c =
     let o = box_cover b p in
     let one : (x y : ℕ) → has (b ∷ []) x y ≡ true → has (b ∷ bs) x y ≡ true =
-    λ x y h. or_left (in_box b x y) (has bs x y) (sym (or_false (in_box b x y)) ∙ h) in
+    λ x y h. or_left (in_box b x y) (has bs x y) (sym (or-false (in_box b x y)) ∙ h) in
     let more : (x y : ℕ) → has bs x y ≡ true → has (b ∷ bs) x y ≡ true = λ x y h. or_right (in_box b x y) (has bs x y) h in
     let ol = o.left in
     let ot = o.top in
@@ -135,10 +129,6 @@ covering_cover b bs k = proper_cover b bs k.proper
 pub covering_proper : (b : CellBox) (bs : List CellBox) → Banded (b ∷ bs) → Proper (covering (b ∷ bs))
 covering_proper b bs k = proper_proper b bs k.proper
 
--- it is the only box that is around the cells, with each side at one
-pub cover_is : (b : CellBox) (bs : List CellBox) (k : CellBox) → Banded (b ∷ bs) → Cover (b ∷ bs) k → k ≡ covering (b ∷ bs)
-cover_is b bs k h c = cover_same (b ∷ bs) k (covering (b ∷ bs)) c (covering_cover b bs h)
-
 -- it is the least box over the cells
 pub covers : Covers
 covers b bs k = cover_least (b ∷ bs) (covering (b ∷ bs)) (covering_cover b bs k)
@@ -153,16 +143,6 @@ box_within p q w h f =
     let a = box_parts q p.left p.top (f p.left p.top (box_from p p.left p.top (omega arith) w (omega arith) h)) in
     let b = box_parts q x y (f x y (box_from p x y (omega arith) (omega arith) (omega arith) (omega arith))) in
     (a.0, a.2, omega arith, omega arith)
-
--- it is the only least box over the cells
-pub covering_least : (b : CellBox) (bs : List CellBox) (k : CellBox) → Banded (b ∷ bs) → Least (b ∷ bs) k → k ≡ covering (b ∷ bs)
-covering_least b bs k h l =
-    let j : CellBox = covering (b ∷ bs) in
-    let c = covering_cover b bs h in
-    let w = covering_proper b bs h in
-    let p = cover_within (b ∷ bs) j k c l.around in
-    let q = box_within k j (omega arith) (omega arith) (l.least j c.around) in
-    box_same k j (omega arith) (omega arith) (omega arith) (omega arith)
 
 -- what stands in a region is banded
 pub limited_banded : (bs : List CellBox) → Banded bs → Banded (limited bs)

@@ -1,12 +1,13 @@
 -- The runs of a row, drawn from left to right.
 use Rattle.std.proofs.Common.{◌≡◌, ℕ, ◌+◌, ◌*◌, ◌<◌, ◌≤◌, Bool, true, false, ◌||◌, ◌⊎◌, List, [], ◌∷◌, ◌++◌, length, sym, refl, ap, ◌∙◌, ap₂, inl, inr, arith}
+use Rattle.std.proofs.Math.Bool.{or-false, or_assoc}
 use Rattle.std.proofs.lemmas.Bool.{cases_lt}
 use Rattle.std.proofs.lemmas.Bool.Decides.{nat_tests}
 use Rattle.boxes.specs.Banded.{Span}
 use Rattle.boxes.specs.Bands.{Apart, in_spans}
 use Rattle.boxes.specs.Cells.{between}
 use Rattle.boxes.specs.Strips.{Drawn, limit}
-use Rattle.boxes.proofs.Unique.{below, beyond, inside, or_assoc, or_false}
+use Rattle.boxes.proofs.Unique.{below, beyond, inside}
 
 pub limit_push : (l : ℕ) (ss : List Span) (s : Span) → limit l (ss ++ s ∷ []) ≡ s.right + 1
 limit_push l [] s = refl
@@ -31,7 +32,7 @@ apart_past l (s ∷ ss) x a h =
     rw (beyond s.left s.right x (omega (arith, apart_size (s.right + 1) ss a.3))) (apart_past (s.right + 1) ss x a.3 h)
 
 pub spans_push : (ss : List Span) (s : Span) (x : ℕ) → in_spans (ss ++ s ∷ []) x ≡ (in_spans ss x || between s.left s.right x)
-spans_push [] s x = or_false (between s.left s.right x)
+spans_push [] s x = or-false (between s.left s.right x)
 spans_push (t ∷ ss) s x =
     ap (λ v. between t.left t.right x || v) (spans_push ss s x) ∙ sym (or_assoc (between t.left t.right x) (in_spans ss x) (between s.left s.right x))
 
@@ -83,7 +84,7 @@ drawn_push c x e ss d h top on free =
       apart = apart_push 0 ss s d.apart free h top;
       near = omega (arith, limit_push 0 ss s);
       cells = λ v k. spans_push ss s v ∙ elim (cases_lt v x) [
-        | inl j ↦ ap (λ w. in_spans ss v || w) (below x e v j) ∙ or_false (in_spans ss v) ∙ d.cells v j
+        | inl j ↦ ap (λ w. in_spans ss v || w) (below x e v j) ∙ or-false (in_spans ss v) ∙ d.cells v j
         | inr j ↦ ap₂ ◌||◌ (apart_past 0 ss v d.apart (omega arith)) (inside x e v j k) ∙ sym (on v j k)
       ];
     }

@@ -3,6 +3,7 @@ use Rattle.std.proofs.Common.{◌≡◌, ℕ, ◌+◌, ◌≤◌, min, Bool, tru
 use Rattle.screen.specs.Rects.{on_screen}
 use Rattle.screen.specs.declared.rect.Rect.{Rect}
 use Rattle.std.specs.List.{AllByRecursion}
+use Rattle.std.proofs.Math.Bool.{or-false}
 use Rattle.std.proofs.lemmas.Bool.{and_from, and_left, and_parts, and_right, both_ways, cases_Bool, cond_both, leb-true, not_from_true, or_left, or_right}
 use Rattle.std.proofs.lemmas.Bool.Decides.{nat_tests}
 use Rattle.boxes.specs.declared.cell_box.CellBox.{CellBox}
@@ -16,7 +17,6 @@ use Rattle.boxes.proofs.Covering.{box_from, box_parts, box_within, covers}
 use Rattle.boxes.proofs.Existence.{exists_bands}
 use Rattle.boxes.proofs.One.{one_region, region_is}
 use Rattle.boxes.proofs.Rules.{box_banded, equivalent, from_bands, to_bands, unique}
-use Rattle.boxes.proofs.Unique.{or_false}
 
 -- every set of cells of the largest screen has a banded list
 pub exists : Exists
@@ -35,7 +35,7 @@ limited_inside : (bs : List CellBox) (k : CellBox) → Banded bs → HasAll (in_
 limited_inside [] k b f = f
 limited_inside (c ∷ bs) k b f =
     cond_both (leb (length (c ∷ bs)) 32) (c ∷ bs) (covering (c ∷ bs) ∷ []) (λ l. HasAll (in_box k) (has l)) (λ _. f)
-    (λ _ x y on. (covers c bs b).least k f x y (sym (or_false (in_box (covering (c ∷ bs)) x y)) ∙ on))
+    (λ _ x y on. (covers c bs b).least k f x y (sym (or-false (in_box (covering (c ∷ bs)) x y)) ∙ on))
 
 limited_few : (bs : List CellBox) → length (limited bs) ≤ 32
 limited_few bs =
@@ -75,7 +75,7 @@ cut_by_all bs ks rs b n f r = region_is (both bs ks) rs bs r b (both_all bs ks f
 pub cut_by_one : CutByOne
 cut_by_one bs rs k b n r =
     let c = clip bs k (to_bands bs b) in
-    let same : SameCells (has c.0) (both bs (k ∷ [])) = λ x y. c.3 x y ∙ ap (λ v. has bs x y && v) (sym (or_false (in_box k x y))) in
+    let same : SameCells (has c.0) (both bs (k ∷ [])) = λ x y. c.3 x y ∙ ap (λ v. has bs x y && v) (sym (or-false (in_box k x y))) in
     let e : rs ≡ c.0 = region_is (both bs (k ∷ [])) rs c.0 r (from_bands c.0 c.1) same (omega (arith, c.2, n)) in
     subst (λ l. SameCells (has l) (both bs (k ∷ []))) (sym e) same
 
@@ -181,7 +181,7 @@ cut_by_rect bs ks rs rect b n r c =
     let k : CellBox = rect_box rect in
     elim (cases_Bool (ltb k.left k.right && ltb k.top k.bottom)) [
       | inl on ↦
-          (let cells : SameCells (has (k ∷ [])) (of_rect rect) = λ x y. or_false (in_box k x y) ∙ rect_cells rect x y in
+          (let cells : SameCells (has (k ∷ [])) (of_rect rect) = λ x y. or-false (in_box k x y) ∙ rect_cells rect x y in
           let one : ks ≡ k ∷ [] = region_is (of_rect rect) ks (k ∷ []) r (box_banded k (rect_proper rect on)) cells (omega arith) in
           λ x y. cut_by_one bs rs k b n (subst (λ l. RegionOf (both bs l) rs) one c) x y ∙ ap (λ t. has bs x y && t) (cells x y))
       | inr off ↦

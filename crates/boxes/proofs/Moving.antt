@@ -4,6 +4,7 @@ use Rattle.std.specs.List.{AllByRecursion}
 use Rattle.std.proofs.lemmas.List.{map-append}
 use Rattle.std.proofs.lemmas.Bool.{and_left, cases_Bool}
 use Rattle.std.proofs.lemmas.Bool.Decides.{nat_tests}
+use Rattle.screen.specs.declared.corner.Corner.{Corner}
 use Rattle.boxes.specs.declared.cell_box.CellBox.{CellBox}
 use Rattle.boxes.specs.Banded.{Span}
 use Rattle.boxes.specs.Bands.{Apart, Band, ByBands, Stack, boxes_of, flat}
@@ -13,22 +14,22 @@ use Rattle.boxes.proofs.Adding.{every_flat, stack_close, stack_raise, unseen}
 use Rattle.boxes.proofs.Unique.{span_same}
 
 -- the moved box is on the largest screen
-abbrev pub Stays : ℕ → ℕ → ℕ → ℕ → CellBox → Type 0
-Stays fx fy tx ty b = (fx ≤ b.left + tx) × (fy ≤ b.top + ty) × (b.right + tx ≤ 256 + fx) × (b.bottom + ty ≤ 256 + fy)
+abbrev pub Stays : Corner → Corner → CellBox → Type 0
+Stays from to b = (from.x ≤ b.left + to.x) × (from.y ≤ b.top + to.y) × (b.right + to.x ≤ 256 + from.x) × (b.bottom + to.y ≤ 256 + from.y)
 
 -- runs and bands, moved
 abbrev pub move_span : ℕ → ℕ → Span → Span
 move_span f t s = record { left = s.left + t - f; right = s.right + t - f }
 
-abbrev pub move_band : ℕ → ℕ → ℕ → ℕ → Band → Band
-move_band fx fy tx ty b = record { top = b.top + ty - fy; bottom = b.bottom + ty - fy; row = map (move_span fx tx) b.row }
+abbrev pub move_band : Corner → Corner → Band → Band
+move_band from to b = record { top = b.top + to.y - from.y; bottom = b.bottom + to.y - from.y; row = map (move_span from.x to.x) b.row }
 
 -- and on the largest screen then
 abbrev pub RunsStay : ℕ → ℕ → List Span → Type 0
 RunsStay f t ss = AllByRecursion (λ s. (f ≤ s.left + t) × (s.right + t ≤ 256 + f)) ss
 
-abbrev pub BandStays : ℕ → ℕ → ℕ → ℕ → Band → Type 0
-BandStays fx fy tx ty b = (fy ≤ b.top + ty) × (b.bottom + ty ≤ 256 + fy) × RunsStay fx tx b.row
+abbrev pub BandStays : Corner → Corner → Band → Type 0
+BandStays from to b = (from.y ≤ b.top + to.y) × (b.bottom + to.y ≤ 256 + from.y) × RunsStay from.x to.x b.row
 
 -- runs
 pub move_apart : (f t l m : ℕ) (ss : List Span) → Apart l ss → RunsStay f t ss → m ≤ l + t - f → Apart m (map (move_span f t) ss)
@@ -68,84 +69,84 @@ nothing true true = refl
 nothing true false = refl
 nothing false c = refl
 
-module _ (fx fy tx ty : ℕ) where
+module _ (from to : Corner) where
   -- what is said of the boxes is said of the bands
-  runs_stay : (t e : ℕ) (ss : List Span) → AllByRecursion (Stays fx fy tx ty) (boxes_of t e ss) → RunsStay fx tx ss
+  runs_stay : (t e : ℕ) (ss : List Span) → AllByRecursion (Stays from to) (boxes_of t e ss) → RunsStay from.x to.x ss
   runs_stay t e [] h = tt
   runs_stay t e (s ∷ ss) h = ((h.0.0, h.0.2), runs_stay t e ss h.1)
 
-  rows_stay : (t e : ℕ) (ss : List Span) → (ss ≡ [] → ⊥) → AllByRecursion (Stays fx fy tx ty) (boxes_of t e ss) → (fy ≤ t + ty) × (e + ty ≤ 256 + fy)
+  rows_stay : (t e : ℕ) (ss : List Span) → (ss ≡ [] → ⊥) → AllByRecursion (Stays from to) (boxes_of t e ss) → (from.y ≤ t + to.y) × (e + to.y ≤ 256 + from.y)
   rows_stay t e [] n h = absurd (n refl)
   rows_stay t e (s ∷ ss) n h = (h.0.1, h.0.3)
 
-  bands_stay : (t : ℕ) (p : List Span) (bs : List Band) → Stack t p bs → AllByRecursion (Stays fx fy tx ty) (flat bs) → AllByRecursion (BandStays fx fy tx ty) bs
+  bands_stay : (t : ℕ) (p : List Span) (bs : List Band) → Stack t p bs → AllByRecursion (Stays from to) (flat bs) → AllByRecursion (BandStays from to) bs
   bands_stay t p [] k h = tt
   bands_stay t p (b ∷ bs) k h =
-      let e = every_flat (Stays fx fy tx ty) b bs h in
+      let e = every_flat (Stays from to) b bs h in
       let r = rows_stay b.top b.bottom b.row k.3 e.1 in
       ((r.0, r.1, runs_stay b.top b.bottom b.row e.1), bands_stay b.top b.row bs k.5 e.0)
 
   -- the boxes of the moved bands are the moved boxes
-  move_boxes : (t e : ℕ) (ss : List Span) → map (move_box fx fy tx ty) (boxes_of t e ss) ≡ boxes_of (t + ty - fy) (e + ty - fy) (map (move_span fx tx) ss)
+  move_boxes : (t e : ℕ) (ss : List Span) → map (move_box from to) (boxes_of t e ss) ≡ boxes_of (t + to.y - from.y) (e + to.y - from.y) (map (move_span from.x to.x) ss)
   move_boxes t e [] = refl
-  move_boxes t e (s ∷ ss) = ap (λ l. record { left = s.left + tx - fx; top = t + ty - fy; right = s.right + tx - fx; bottom = e + ty - fy } ∷ l) (move_boxes t e ss)
+  move_boxes t e (s ∷ ss) = ap (λ l. record { left = s.left + to.x - from.x; top = t + to.y - from.y; right = s.right + to.x - from.x; bottom = e + to.y - from.y } ∷ l) (move_boxes t e ss)
 
-  pub move_flat : (bs : List Band) → map (move_box fx fy tx ty) (flat bs) ≡ flat (map (move_band fx fy tx ty) bs)
+  pub move_flat : (bs : List Band) → map (move_box from to) (flat bs) ≡ flat (map (move_band from to) bs)
   move_flat [] = refl
   move_flat (b ∷ bs) =
-      map-append (move_box fx fy tx ty) (flat bs) (boxes_of b.top b.bottom b.row)
+      map-append (move_box from to) (flat bs) (boxes_of b.top b.bottom b.row)
       ∙ ap₂ ◌++◌ (move_flat bs) (move_boxes b.top b.bottom b.row)
 
   -- the moved bands are a stack
   pub move_stack :
-      (t : ℕ) (p : List Span) (bs : List Band) → Stack t p bs → Apart 0 p → RunsStay fx tx p → fy ≤ t + ty → AllByRecursion (BandStays fx fy tx ty) bs
-      → Stack (t + ty - fy) (map (move_span fx tx) p) (map (move_band fx fy tx ty) bs)
+      (t : ℕ) (p : List Span) (bs : List Band) → Stack t p bs → Apart 0 p → RunsStay from.x to.x p → from.y ≤ t + to.y → AllByRecursion (BandStays from to) bs
+      → Stack (t + to.y - from.y) (map (move_span from.x to.x) p) (map (move_band from to) bs)
   move_stack t p [] k a r h q = tt
   move_stack t p (b ∷ bs) k a r h q = (
     omega arith,
     omega arith,
-    move_apart fx tx 0 0 b.row k.2 q.0.2 (omega arith),
-    (λ e. k.3 (move_same fx tx 0 0 b.row [] k.2 tt q.0.2 tt e)),
-    (λ at e. k.4 (omega arith) (move_same fx tx 0 0 b.row p k.2 a q.0.2 r e)),
+    move_apart from.x to.x 0 0 b.row k.2 q.0.2 (omega arith),
+    (λ e. k.3 (move_same from.x to.x 0 0 b.row [] k.2 tt q.0.2 tt e)),
+    (λ at e. k.4 (omega arith) (move_same from.x to.x 0 0 b.row p k.2 a q.0.2 r e)),
     move_stack b.top b.row bs k.5 k.2 q.0.2 q.0.0 q.1,
   )
 
-  move_largest : (bs : List Band) → Stack 256 [] bs → AllByRecursion (BandStays fx fy tx ty) bs → Stack 256 [] (map (move_band fx fy tx ty) bs)
+  move_largest : (bs : List Band) → Stack 256 [] bs → AllByRecursion (BandStays from to) bs → Stack 256 [] (map (move_band from to) bs)
   move_largest [] k q = tt
   move_largest (b ∷ bs) k q =
-      stack_raise (b.bottom + ty - fy) 256 (map (move_band fx fy tx ty) (b ∷ bs))
+      stack_raise (b.bottom + to.y - from.y) 256 (map (move_band from to) (b ∷ bs))
       (move_stack b.bottom [] (b ∷ bs) (stack_close 256 [] b bs k) tt tt (omega arith) q) (omega arith)
 
   -- the cells of the moved boxes
   pub move_cells :
-      (bs : List CellBox) → AllByRecursion (Stays fx fy tx ty) bs → (x y : ℕ)
-      → has (map (move_box fx fy tx ty) bs) x y ≡ (leb tx (x + fx) && leb ty (y + fy) && has bs (x + fx - tx) (y + fy - ty))
-  move_cells [] h x y = nothing (leb tx (x + fx)) (leb ty (y + fy))
+      (bs : List CellBox) → AllByRecursion (Stays from to) bs → (x y : ℕ)
+      → has (map (move_box from to) bs) x y ≡ (leb to.x (x + from.x) && leb to.y (y + from.y) && has bs (x + from.x - to.x) (y + from.y - to.y))
+  move_cells [] h x y = nothing (leb to.x (x + from.x)) (leb to.y (y + from.y))
   move_cells (b ∷ bs) h x y =
-      ap₂ ◌||◌ (ap₂ ◌&&◌ (move_between fx tx b.left b.right x h.0.0) (move_between fy ty b.top b.bottom y h.0.1)) (move_cells bs h.1 x y)
-      ∙ shared (leb tx (x + fx)) (between b.left b.right (x + fx - tx)) (leb ty (y + fy)) (between b.top b.bottom (y + fy - ty)) (has bs (x + fx - tx) (y + fy - ty))
+      ap₂ ◌||◌ (ap₂ ◌&&◌ (move_between from.x to.x b.left b.right x h.0.0) (move_between from.y to.y b.top b.bottom y h.0.1)) (move_cells bs h.1 x y)
+      ∙ shared (leb to.x (x + from.x)) (between b.left b.right (x + from.x - to.x)) (leb to.y (y + from.y)) (between b.top b.bottom (y + from.y - to.y)) (has bs (x + from.x - to.x) (y + from.y - to.y))
 
   -- the moved list is banded, and has the cells of the list, moved
   pub move_bands :
-      (bs : List CellBox) → ByBands bs → AllByRecursion (Stays fx fy tx ty) bs
-      → ByBands (map (move_box fx fy tx ty) bs)
-      × ((x y : ℕ) → has (map (move_box fx fy tx ty) bs) x y ≡ (leb tx (x + fx) && leb ty (y + fy) && has bs (x + fx - tx) (y + fy - ty)))
+      (bs : List CellBox) → ByBands bs → AllByRecursion (Stays from to) bs
+      → ByBands (map (move_box from to) bs)
+      × ((x y : ℕ) → has (map (move_box from to) bs) x y ≡ (leb to.x (x + from.x) && leb to.y (y + from.y) && has bs (x + from.x - to.x) (y + from.y - to.y)))
   move_bands bs b h =
-      let q : AllByRecursion (BandStays fx fy tx ty) b.bands =
-      bands_stay 256 [] b.bands b.stack (subst (λ l. AllByRecursion (Stays fx fy tx ty) l) b.boxes h) in (
+      let q : AllByRecursion (BandStays from to) b.bands =
+      bands_stay 256 [] b.bands b.stack (subst (λ l. AllByRecursion (Stays from to) l) b.boxes h) in (
         record {
-          bands = map (move_band fx fy tx ty) b.bands;
-          boxes = ap (map (move_box fx fy tx ty)) b.boxes ∙ move_flat b.bands;
+          bands = map (move_band from to) b.bands;
+          boxes = ap (map (move_box from to)) b.boxes ∙ move_flat b.bands;
           stack = move_largest b.bands b.stack q;
         },
         move_cells bs h,
       )
 
   -- these are the cells of the list, shifted
-  pub move_shifted : (bs : List CellBox) → ByBands bs → AllByRecursion (Stays fx fy tx ty) bs → SameCells (has (map (move_box fx fy tx ty) bs)) (shifted fx fy tx ty bs)
+  pub move_shifted : (bs : List CellBox) → ByBands bs → AllByRecursion (Stays from to) bs → SameCells (has (map (move_box from to) bs)) (shifted from to bs)
   move_shifted bs b h x y =
       let m = move_bands bs b h in
-      let here : Bool = leb tx (x + fx) && leb ty (y + fy) && has bs (x + fx - tx) (y + fy - ty) in
+      let here : Bool = leb to.x (x + from.x) && leb to.y (y + from.y) && has bs (x + from.x - to.x) (y + from.y - to.y) in
       elim (cases_Bool (on_largest x y)) [
         | inl on ↦ m.1 x y ∙ sym (ap (λ v. v && here) on)
         | inr off ↦ ap (λ l. has l x y) m.0.boxes ∙ unseen m.0.bands x y m.0.stack off ∙ sym (and_left (on_largest x y) here off)

@@ -1,5 +1,6 @@
 -- A stack of bands is known by its cells.
 use Rattle.std.proofs.Common.{◌≡◌, ℕ, ◌+◌, ◌-◌, ◌<◌, ◌≤◌, Bool, true, false, cond, ◌&&◌, ◌||◌, ◌≢◌, List, [], ◌∷◌, ◌++◌, sym, refl, ap, ◌∙◌, ap₂, inl, inr, arith}
+use Rattle.std.proofs.Math.Bool.{and-false, or-false, or_assoc}
 use Rattle.std.proofs.lemmas.Bool.{cases_lt, cond_both, false≢true}
 use Rattle.std.proofs.lemmas.Bool.Decides.{nat_tests}
 use Rattle.boxes.specs.declared.cell_box.CellBox.{CellBox}
@@ -8,18 +9,6 @@ use Rattle.boxes.specs.Bands.{Apart, Band, ByBands, Stack, boxes_of, flat, in_sp
 use Rattle.boxes.specs.Cells.{between, has, in_box, SameCells}
 
 -- Booleans
-pub or_false : (a : Bool) → (a || false) ≡ a
-or_false true = refl
-or_false false = refl
-
-pub or_assoc : (a b c : Bool) → ((a || b) || c) ≡ (a || (b || c))
-or_assoc true b c = refl
-or_assoc false b c = refl
-
-and_false : (a : Bool) → (a && false) ≡ false
-and_false true = refl
-and_false false = refl
-
 spread : (a w c : Bool) → ((a && w) || (w && c)) ≡ (w && (a || c))
 spread true true c = refl
 spread true false c = refl
@@ -28,7 +17,7 @@ spread false false c = refl
 
 pick : (w : Bool) (older r : List Span) (x : ℕ) → (w ≡ true → older ≡ []) → (in_spans older x || (w && in_spans r x)) ≡ in_spans (cond w r older) x
 pick true older r x h = ap (λ l. in_spans l x || in_spans r x) (h refl)
-pick false older r x h = or_false (in_spans older x)
+pick false older r x h = or-false (in_spans older x)
 
 -- tests
 pub inside : (l r x : ℕ) → l ≤ x → x < r → between l r x ≡ true
@@ -175,7 +164,7 @@ has-++ [] cs x y = refl
 has-++ (b ∷ bs) cs x y = ap (λ v. in_box b x y || v) (has-++ bs cs x y) ∙ sym (or_assoc (in_box b x y) (has bs x y) (has cs x y))
 
 pub has_band : (t e : ℕ) (ss : List Span) (x y : ℕ) → has (boxes_of t e ss) x y ≡ (between t e y && in_spans ss x)
-has_band t e [] x y = sym (and_false (between t e y))
+has_band t e [] x y = sym (and-false (between t e y))
 has_band t e (s ∷ ss) x y =
     ap (λ v. (between s.left s.right x && between t e y) || v) (has_band t e ss x y)
     ∙ spread (between s.left s.right x) (between t e y) (in_spans ss x)

@@ -2,6 +2,7 @@
 use Rattle.std.specs.Prelude.{◌≡◌, ℕ, ◌+◌, ◌-◌, Bool, false, not, ◌&&◌, ◌||◌, List, [], ◌∷◌, nat_le, nat_lt}
 use Rattle.screen.specs.Rects.{holds, on_screen}
 use Rattle.screen.specs.declared.rect.Rect.{Rect}
+use Rattle.screen.specs.declared.corner.Corner.{Corner}
 use Rattle.boxes.specs.declared.cell_box.CellBox.{CellBox}
 
 -- l ≤ n < r
@@ -46,11 +47,10 @@ both ps qs x y = has ps x y && has qs x y
 abbrev pub but_not : List CellBox → List CellBox → ℕ → ℕ → Bool
 but_not ps qs x y = has ps x y && not (has qs x y)
 
--- the cells, moved by the distance from the corner (fx, fy) to the corner (tx, ty), as far as they
--- stay on the largest screen
-abbrev pub shifted : ℕ → ℕ → ℕ → ℕ → List CellBox → ℕ → ℕ → Bool
-shifted fx fy tx ty bs x y =
-    on_largest x y && (nat_le tx (x + fx) && nat_le ty (y + fy) && has bs (x + fx - tx) (y + fy - ty))
+-- the cells, moved by the distance from one corner to another, as far as they stay on the largest screen
+abbrev pub shifted : Corner → Corner → List CellBox → ℕ → ℕ → Bool
+shifted from to bs x y =
+    on_largest x y && (nat_le to.x (x + from.x) && nat_le to.y (y + from.y) && has bs (x + from.x - to.x) (y + from.y - to.y))
 
 -- a box as a rectangle, which has the box's cells
 pub record AsRect (b : CellBox) (rect : Rect) : Type 0 where

@@ -33,10 +33,7 @@ common_some bs k (x, y, on) =
     let (i, b, lt, at, in') = Any-from_list_any (λ c. in_box c x y) bs (sym (has_is bs x y) ∙ p.0) in
     (i, b, lt, at, (x, y, ap₂ ◌&&◌ in' p.1))
 
--- what decides a question, by its answer
-pub decides_yes : (P : Type 0) → P → Decides true P
-decides_yes P p = ((λ _. p), (λ _. refl))
-
+-- the answer no
 pub decides_no : (P : Type 0) → (P → ⊥) → Decides false P
 decides_no P n = ((λ e. absurd (both_ways false refl e)), (λ p. absurd (n p)))
 

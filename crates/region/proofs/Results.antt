@@ -1,21 +1,20 @@
 -- What is drawn in the end is the region of the cells that the operation keeps.
-use Rattle.std.proofs.Common.{◌≡◌, MatchOption, Option, Some, None, ℕ, ◌<◌, ◌≤◌, Bool, true, false, ◌&&◌, ◌||◌, leb, List, [], ◌∷◌, length, sym, refl, ap, ◌∙◌, subst, ap₂, arith, length-take}
+use Rattle.std.proofs.Common.{◌≡◌, MatchOption, Option, Some, None, ℕ, ◌<◌, ◌≤◌, Bool, true, false, ◌&&◌, ◌||◌, leb, List, [], ◌∷◌, length, sym, refl, ap, ◌∙◌, subst, subst₂, ap₂, arith, length-take}
+use Rattle.std.proofs.Math.Bool.{and-false, and-true}
 use Rattle.std.proofs.lemmas.Bool.{cond-false, cond-true}
 use Rattle.std.proofs.lemmas.Bool.Decides.{nat_tests}
 use Rattle.screen.specs.declared.rect.Rect.{Rect}
 use Rattle.boxes.specs.declared.cell_box.CellBox.{CellBox}
-use Rattle.boxes.specs.Banded.{Banded, Proper}
+use Rattle.boxes.specs.Banded.{Banded}
 use Rattle.boxes.specs.Bands.{flat}
-use Rattle.boxes.specs.Cells.{SameCells, either, has, in_box, none, of_rect, on_largest}
+use Rattle.boxes.specs.Cells.{SameCells, either, has, of_rect, on_largest}
 use Rattle.boxes.specs.Regions.{RegionOf, box_at, covering, limited}
 use Rattle.boxes.specs.Strips.{outline}
-use Rattle.boxes.proofs.Adding.{and_true, painted_cells, stack_seen, seen_largest}
+use Rattle.boxes.proofs.Adding.{painted_cells, stack_seen, seen_largest}
 use Rattle.boxes.proofs.One.{worked}
 use Rattle.boxes.proofs.Outlines.{outline_covering}
-use Rattle.boxes.proofs.Rules.{box_banded, from_bands, to_bands}
-use Rattle.boxes.proofs.Unique.{or_false}
+use Rattle.boxes.proofs.Rules.{from_bands, to_bands}
 use Rattle.region.specs.declared.operation.Operation.{Operation}
-use Rattle.region.specs.declared.operation.Operation.TheVariants.{Join, Cut, Away}
 use Rattle.region.specs.declared.drawn.Drawn.{Drawn}
 use Rattle.region.specs.declared.few.Few.{Few}
 use Rattle.region.specs.declared.work.Work.{Work}
@@ -23,6 +22,7 @@ use Rattle.region.specs.Listed.{listed}
 use Rattle.region.specs.Sets.{keeps, kept}
 use Rattle.region.specs.Sweeps.{Painting}
 use Rattle.region.specs.Works.{Stands}
+use Rattle.region.proofs.Runs.{none_kept}
 
 -- no more boxes are there than there is room for
 pub at_most : {n : ℕ} (few : Few n) → length (listed few) ≤ n
@@ -46,20 +46,11 @@ largest_is_on bs x y b = go (has bs x y) refl
         sym (seen_largest x y s.0 s.1)
 
 keeps_largest : (op : Operation) (a b o : Bool) → a ≡ (a && o) → b ≡ (b && o) → (keeps op a b && o) ≡ keeps op a b
-keeps_largest op a b true p q = and_true (keeps op a b)
+keeps_largest op a b true p q = and-true (keeps op a b)
 keeps_largest op a b false p q =
-    let off : a ≡ false = p ∙ nothing a in
-    let off' : b ≡ false = q ∙ nothing b in
-    nothing (keeps op a b) ∙ sym (ap₂ (keeps op) off off' ∙ none_kept op)
-  where
-    nothing : (c : Bool) → (c && false) ≡ false
-    nothing true = refl
-    nothing false = refl
-
-    none_kept : (op : Operation) → keeps op false false ≡ false
-    none_kept Join = refl
-    none_kept Cut = refl
-    none_kept Away = refl
+    let off : a ≡ false = p ∙ and-false a in
+    let off' : b ≡ false = q ∙ and-false b in
+    and-false (keeps op a b) ∙ sym (ap₂ (keeps op) off off' ∙ none_kept op)
 
 module _ (op : Operation) (ps qs : List CellBox) (p : Banded ps) (q : Banded qs) (w : Work) (d : Painting (kept op ps qs) 256 w) where
   exact_banded : Banded (flat d.bands)
@@ -111,27 +102,11 @@ module _ (op : Operation) (ps qs : List CellBox) (p : Banded ps) (q : Banded qs)
       go None over e = many_region over (listed few) e
       go (Some b) drawn e = subst (λ f. RegionOf (kept op ps qs) (listed f)) (sym e) (few_region b drawn)
 
--- the region of a box, and the empty one
-pub none_banded : Banded []
-none_banded = record { proper = tt; order = tt; rows = tt; apart = tt; merged = tt }
-
-pub empty_region : (cells : ℕ → ℕ → Bool) (rs : List CellBox) → rs ≡ [] → SameCells cells none → RegionOf cells rs
-empty_region cells rs e off = record { exact = []; banded = none_banded; same = λ x y. sym (off x y); boxes = e }
-
-pub box_region : (cells : ℕ → ℕ → Bool) (rs : List CellBox) (b : CellBox) → rs ≡ b ∷ [] → Proper b → SameCells (in_box b) cells → RegionOf cells rs
-box_region cells rs b e p same =
-    record {
-      exact = b ∷ [];
-      banded = box_banded b p;
-      same = λ x y. or_false (in_box b x y) ∙ same x y;
-      boxes = e;
-    }
-
-pub empty_same_cells : (cells : ℕ → ℕ → Bool) (rs : List CellBox) → rs ≡ [] → SameCells cells none → SameCells (has rs) cells
-empty_same_cells cells rs e off x y = ap (λ l. has l x y) e ∙ sym (off x y)
-
-pub box_same_cells : (cells : ℕ → ℕ → Bool) (rs : List CellBox) (b : CellBox) → rs ≡ b ∷ [] → SameCells (in_box b) cells → SameCells (has rs) cells
-box_same_cells cells rs b e same x y = ap (λ l. has l x y) e ∙ or_false (in_box b x y) ∙ same x y
+-- whatever the two lists are called
+pub combined :
+    (op : Operation) (as' bs ps qs : List CellBox) (w : Work) (few : Few 32) → ps ≡ as' → qs ≡ bs → Banded ps → Banded qs → Painting (kept op ps qs) 256 w
+    → MatchOption w.drawn (listed few ≡ w.hull ∷ []) (λ b. few ≡ b.boxes) → RegionOf (kept op as' bs) (listed few)
+combined op as' bs ps qs w few e f b c d is = subst₂ (λ l m. RegionOf (kept op l m) (listed few)) e f (work_region op ps qs b c w d few is)
 
 -- the join of two rectangles' regions, from their cells
 pub joined_rects :

@@ -1,5 +1,5 @@
 -- Which cells the runs of a row have at the column at hand.
-use Rattle.std.proofs.Common.{◌≡◌, ℕ, ◌+◌, ◌<◌, ◌≤◌, Bool, true, false, cond, leb, List, [], ◌∷◌, length, sym, refl, ◌∙◌, ap₂, inl, inr, arith}
+use Rattle.std.proofs.Common.{◌≡◌, ℕ, ◌+◌, ◌<◌, ◌≤◌, Bool, true, false, leb, List, [], ◌∷◌, length, sym, refl, ◌∙◌, ap₂, inl, inr, arith}
 use Rattle.std.proofs.lemmas.Bool.{cases_lt, cond_both}
 use Rattle.std.proofs.lemmas.Bool.Decides.{nat_tests}
 use Rattle.boxes.specs.declared.cell_box.CellBox.{CellBox}
@@ -10,7 +10,7 @@ use Rattle.boxes.proofs.Drawing.{apart_from, drawn_pass}
 use Rattle.boxes.proofs.Unique.{drop_head, head_before, head_in}
 use Rattle.region.specs.declared.operation.Operation.{Operation}
 use Rattle.region.specs.declared.operation.Operation.TheVariants.{Join, Cut, Away}
-use Rattle.region.specs.Rows.{Fits, Merged, add_run, begun, edge_of, past_run, spans, start_of}
+use Rattle.region.specs.Rows.{Merged, add_run, begun, edge_of, past_run, spans, start_of}
 use Rattle.region.specs.Sets.{keeps}
 use Rattle.region.proofs.Adding.{drawn_add}
 
@@ -105,19 +105,17 @@ module _ (op : Operation) (ps qs rs ss : List CellBox) (x e : ℕ) (g : Along ps
   merge_steady : (v : ℕ) → x ≤ v → v < e → kept_row op ps qs v ≡ keeps op (begun rs x) (begun ss x)
   merge_steady v lo hi = ap₂ (keeps op) (along_steady ps rs x e v g p lo hi) (along_steady qs ss x e v h q lo hi)
 
-  pub merge_draws :
-      (row : List Span) → x < e → e ≤ 256
-      → Drawn (kept_row op ps qs) x row → Drawn (kept_row op ps qs) e (cond (keeps op (begun rs x) (begun ss x)) (add_run x e row) row)
-  merge_draws row lt top d =
-      cond_both (keeps op (begun rs x) (begun ss x)) (add_run x e row) row (Drawn (kept_row op ps qs) e)
-      (λ on. drawn_add (kept_row op ps qs) x e row d lt top (λ v lo hi. merge_steady v lo hi ∙ on))
-      (λ off. drawn_pass (kept_row op ps qs) x e row d lt (λ v lo hi. merge_steady v lo hi ∙ off))
+  -- what is kept is added, and else the runs stay as they are
+  pub merge_adds :
+      (row : List Span) → x < e → e ≤ 256 → Drawn (kept_row op ps qs) x row → keeps op (begun rs x) (begun ss x) ≡ true
+      → Drawn (kept_row op ps qs) e (add_run x e row)
+  merge_adds row lt top d on = drawn_add (kept_row op ps qs) x e row d lt top (λ v lo hi. merge_steady v lo hi ∙ on)
 
-pub drawn_fits : (c : ℕ → Bool) (x : ℕ) (ss : List Span) → Drawn c x ss → x < 256 → Fits x ss
-drawn_fits c x ss d h = record { apart = d.apart; near = d.near; inside = h }
+  pub merge_passes : (row : List Span) → x < e → Drawn (kept_row op ps qs) x row → keeps op (begun rs x) (begun ss x) ≡ false → Drawn (kept_row op ps qs) e row
+  merge_passes row lt d off = drawn_pass (kept_row op ps qs) x e row d lt (λ v lo hi. merge_steady v lo hi ∙ off)
 
 -- at first nothing is drawn, and what is drawn in the end is the row
-none_kept : (op : Operation) → keeps op false false ≡ false
+pub none_kept : (op : Operation) → keeps op false false ≡ false
 none_kept Join = refl
 none_kept Cut = refl
 none_kept Away = refl

@@ -1,5 +1,6 @@
 -- Which cells a banded list has in the rows at hand of a sweep.
 use Rattle.std.proofs.Common.{◌≡◌, ℕ, zero, suc, ◌+◌, ◌<◌, ◌≤◌, true, false, ◌&&◌, ◌||◌, eqb, leb, ◌⊎◌, List, [], ◌∷◌, ◌++◌, length, take, drop, take_while, sym, refl, ap, ◌∙◌, subst, inl, inr, arith}
+use Rattle.std.proofs.Math.Bool.{or-false}
 use Rattle.std.proofs.lemmas.List.Sums.{take_while-cons}
 use Rattle.std.proofs.lemmas.Bool.{cases_eq, cases_lt, cond_both, cond-false, cond-true, eq-eqb, ne_eqb}
 use Rattle.std.proofs.lemmas.Bool.Decides.{nat_tests}
@@ -8,7 +9,7 @@ use Rattle.boxes.specs.declared.cell_box.CellBox.{CellBox}
 use Rattle.boxes.specs.Banded.{Banded, NoTouch, OneBand, Pairs, Proper, before}
 use Rattle.boxes.specs.Bands.{Apart, boxes_of, in_spans}
 use Rattle.boxes.specs.Cells.{between, has, has_row, in_box}
-use Rattle.boxes.proofs.Unique.{below, beyond, has-++, has_band, inside, or_false}
+use Rattle.boxes.proofs.Unique.{below, beyond, has-++, has_band, inside}
 use Rattle.region.specs.Leads.{below_band, first_band, has_top}
 use Rattle.region.specs.Places.{past_of, shown_boxes, turn_of}
 use Rattle.region.specs.Rows.{spans}
@@ -161,7 +162,7 @@ at_row bs (c ∷ cs) y e x v a h lo hi =
           let turn : turn_of (c ∷ cs) y ≡ c.bottom = grind (arith, nat_tests) in
           let on : between c.top c.bottom v ≡ true = inside c.top c.bottom v (omega arith) (omega arith) in
           let under : has (below_band (c ∷ cs)) x v ≡ false = none_above (below_band (c ∷ cs)) c.bottom x v (first_parts c cs a.order).under (omega arith) in
-          lead_has c cs x v a.order ∙ rw (on, under, all) (or_false (in_spans (spans (first_band (c ∷ cs))) x)))
+          lead_has c cs x v a.order ∙ rw (on, under, all) (or-false (in_spans (spans (first_band (c ∷ cs))) x)))
     ]
 
 pub at_apart : (bs cs : List CellBox) (y : ℕ) → At bs cs y → Apart 0 (spans (shown_boxes cs y))

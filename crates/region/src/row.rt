@@ -2,7 +2,7 @@
 // so that the boxes of a band are its runs as they stand.
 ghost use Rattle.boxes.specs.Bands.{Apart};
 ghost use Rattle.region.specs.Rows.{Fits, Merged, add_run, begun, edge_of, ends_at, past_run, runs_of, spans, start_of};
-ghost use Rattle.std.specs.Prelude.{◌≡◌, [], if◌then◌else◌};
+ghost use Rattle.std.specs.Prelude.{◌≡◌, []};
 
 use crate::few::Few;
 use crate::operation::Operation;
@@ -48,16 +48,6 @@ impl Row {
         }
     }
 
-    // Adds the columns where they are kept.
-    fn draw(&mut self, kept: bool, left: u16, right: u16)
-        requires { Fits left (runs_of self.old) }
-        ensures { runs_of self.new ≡ (if kept then add_run left right (runs_of self.old) else runs_of self.old) }
-    {
-        if kept {
-            self.add(left, right);
-        }
-    }
-
     // Becomes the row of what the operation keeps of two rows, each given by its runs.
     pub(crate) fn merge(&mut self, operation: Operation, first: &[CellBox], second: &[CellBox])
         requires { (Apart 0 (spans first.now)) × (Apart 0 (spans second.now)) }
@@ -68,8 +58,9 @@ impl Row {
         self.runs.clear();
         while !(first.is_empty() && second.is_empty()) {
             let next = edge(first, x).min(edge(second, x));
-            let kept = operation.keep(begun(first, x), begun(second, x));
-            self.draw(kept, x, next);
+            if operation.keep(begun(first, x), begun(second, x)) {
+                self.add(x, next);
+            }
             first = past(first, next);
             second = past(second, next);
             x = next;

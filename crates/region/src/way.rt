@@ -1,12 +1,14 @@
 // The way that cells are moved: by the distance from one corner to another.
+ghost use Rattle.boxes.specs.Banded.{Proper};
 ghost use Rattle.boxes.specs.Moves.{staying};
-ghost use Rattle.region.specs.Shifts.{move_onto};
-ghost use Rattle.std.specs.Prelude.{◌≡◌, ◌+◌, ◌-◌, min, map};
+ghost use Rattle.region.specs.Shifts.{has_cells, move_onto};
+ghost use Rattle.std.specs.Bool.{then_some};
+ghost use Rattle.std.specs.Prelude.{◌≡◌, ◌+◌, ◌-◌, min, IfSome};
 
 use boxes::CellBox;
 use screen::Corner;
 
-#[derive(Clone, Copy)]
+#[derive(Clone, Copy, PartialEq, Eq, Hash, Debug)]
 pub struct Way {
     pub from: Corner,
     pub to: Corner,
@@ -21,35 +23,31 @@ fn moved(n: u16, from: u16, to: u16) -> u16
 }
 
 impl Way {
-    // The box of the cells that stay on the largest screen.
-    pub(crate) fn staying(self) -> CellBox
-        ensures { result ≡ staying self.from.x self.from.y self.to.x self.to.y }
+    // The box of the cells that stay on the largest screen, if any do.
+    pub(crate) fn staying(self) -> Option<CellBox>
+        ensures value { result ≡ then_some (has_cells (staying self.from self.to)) (staying self.from self.to) }
+        ensures proper { IfSome result Proper }
     {
         let Way { from, to } = self;
-        CellBox {
+        let b = CellBox {
             left: from.x.saturating_sub(to.x),
             top: from.y.saturating_sub(to.y),
             right: 256u16.saturating_sub(to.x.saturating_sub(from.x)),
             bottom: 256u16.saturating_sub(to.y.saturating_sub(from.y)),
-        }
+        };
+        (b.left < b.right && b.top < b.bottom).then_some(b)
     }
 
-    // Moves a box that is lent.
-    fn move_box(self, b: &mut CellBox)
-        ensures { b.new ≡ move_onto self.from.x self.from.y self.to.x self.to.y b.old }
+    // Where a box comes to, on the largest screen.
+    pub(crate) fn moved(self, b: CellBox) -> CellBox
+        ensures { result ≡ move_onto self.from self.to b }
     {
         let Way { from, to } = self;
-        b.left = moved(b.left, from.x, to.x);
-        b.top = moved(b.top, from.y, to.y);
-        b.right = moved(b.right, from.x, to.x);
-        b.bottom = moved(b.bottom, from.y, to.y);
-    }
-
-    pub(crate) fn move_all(self, boxes: &mut [CellBox])
-        ensures { boxes.new ≡ map (move_onto self.from.x self.from.y self.to.x self.to.y) boxes.old }
-    {
-        for b in boxes.iter_mut() {
-            self.move_box(b);
+        CellBox {
+            left: moved(b.left, from.x, to.x),
+            top: moved(b.top, from.y, to.y),
+            right: moved(b.right, from.x, to.x),
+            bottom: moved(b.bottom, from.y, to.y),
         }
     }
 }

@@ -1,6 +1,7 @@
 // What a few boxes do.
-ghost use Rattle.boxes.specs.Strips.{lower_all, lowered};
-ghost use Rattle.region.specs.Listed.{listed, widened_last};
+ghost use Rattle.boxes.specs.Strips.{lower_all};
+ghost use Rattle.boxes.specs.declared.cell_box.CellBox.{CellBox};
+ghost use Rattle.region.specs.Listed.{Gives, listed, widened_last};
 ghost use Rattle.region.specs.Shifts.{move_onto};
 ghost use Rattle.std.specs.Prelude.{◌≡◌, ◌+◌, ◌<◌, ◌≤◌, [], ◌∷◌, ◌++◌, drop, length, map, take};
 
@@ -8,19 +9,13 @@ use super::Few;
 use crate::way::Way;
 use boxes::CellBox;
 
-// Moves the bottom of a box that is lent.
-fn lower(b: &mut CellBox, bottom: u16)
-    ensures { b.new ≡ lowered bottom b.old }
+// Puts in the place of each box what `change` makes of it.
+fn change_all<F: Fn(CellBox) -> CellBox>(boxes: &mut [CellBox], change: F)
+    requires { F.IsAlwaysCallable change }
+    ensures { (f : CellBox → CellBox) → Gives (F.post change) f → boxes.new ≡ map f boxes.old }
 {
-    b.bottom = bottom;
-}
-
-// Moves the bottom of each box of a band.
-fn lower_all(band: &mut [CellBox], bottom: u16)
-    ensures { band.new ≡ lower_all bottom band.old }
-{
-    for b in band.iter_mut() {
-        lower(b, bottom);
+    for b in boxes.iter_mut() {
+        *b = change(*b);
     }
 }
 
@@ -84,8 +79,7 @@ impl<const N: usize> Few<N> {
         ensures { listed self.new ≡ widened_last right (listed self.old) }
     {
         if self.count > 0 {
-            let last = &mut self.boxes[self.count - 1];
-            last.right = right;
+            self.boxes[self.count - 1].right = right;
         }
     }
 
@@ -94,16 +88,14 @@ impl<const N: usize> Few<N> {
         requires { start ≤ length (listed self.old) }
         ensures { listed self.new ≡ take start (listed self.old) ++ lower_all bottom (drop start (listed self.old)) }
     {
-        let count = self.count;
-        let boxes = &mut self.boxes[..count];
-        lower_all(&mut boxes[start..], bottom);
+        let boxes = &mut self.boxes[..self.count];
+        change_all(&mut boxes[start..], |b| CellBox { bottom, ..b });
     }
 
     // Moves each box.
     pub(crate) fn shift(&mut self, way: Way)
-        ensures { listed self.new ≡ map (move_onto way.from.x way.from.y way.to.x way.to.y) (listed self.old) }
+        ensures { listed self.new ≡ map (move_onto way.from way.to) (listed self.old) }
     {
-        let count = self.count;
-        way.move_all(&mut self.boxes[..count]);
+        change_all(&mut self.boxes[..self.count], |b| way.moved(b));
     }
 }

@@ -2,13 +2,12 @@
 ghost use Rattle.boxes.specs.Banded.{Banded, Proper};
 ghost use Rattle.boxes.specs.Cells.{SameCells, both, but_not, either, has, in_box, none, of_rect, on_largest, shifted};
 ghost use Rattle.boxes.specs.Laws.{Laws, OneForm};
-ghost use Rattle.boxes.specs.Moves.{staying};
 ghost use Rattle.boxes.specs.Regions.{RegionOf, Worked, box_at};
 ghost use Rattle.region.specs.Held.{AsRegion, held};
 ghost use Rattle.region.specs.Sets.{kept};
-ghost use Rattle.region.specs.Shifts.{Kept};
 ghost use Rattle.screen.specs.Rects.{holds, on_screen};
-ghost use Rattle.std.specs.Prelude.{◌≡◌, ℕ, ◌≤◌, true, false, ◌&&◌, [], ◌∷◌, length, Any, Decides};
+ghost use Rattle.std.specs.Prelude.{◌≡◌, ℕ, ◌≤◌, true, false, ◌&&◌, [], ◌∷◌, length, Any, Decides, IfSome};
+ghost use Rattle.std.specs.Option.{option_to_list};
 
 use super::Region;
 use crate::few::Few;
@@ -26,23 +25,22 @@ fn single(b: CellBox) -> Region
     Region { boxes: Few::one(b) }
 }
 
+// The region of a box, or the empty one.
+fn of_box(b: Option<CellBox>) -> Region
+    requires { IfSome b Proper }
+    ensures { held result ≡ option_to_list b }
+{
+    match b {
+        Some(b) => single(b),
+        None => Region::empty(),
+    }
+}
+
 // Whether one of the boxes has a cell in common with another box.
 fn any_meets(boxes: &[CellBox], other: &CellBox) -> bool
     ensures { Decides result (Any (λ b. (x y : ℕ) × (in_box b x y && in_box other.now x y) ≡ true) boxes.now) }
 {
     boxes.iter().any(|b| b.meets(other))
-}
-
-// The cells that stay on the largest screen when they are moved.
-fn staying_cells(way: Way) -> Region
-    ensures { Kept (staying way.from.x way.from.y way.to.x way.to.y) (held result) }
-{
-    let b = way.staying();
-    if b.left < b.right && b.top < b.bottom {
-        single(b)
-    } else {
-        Region::empty()
-    }
 }
 
 impl Region {
@@ -106,11 +104,11 @@ impl Region {
     // The cells, moved by the distance from one corner to another. A cell that would leave the largest
     // screen on any side is dropped; the corners may be any. A shift never adds boxes.
     pub fn shift(&self, from: Corner, to: Corner) -> Region
-        ensures region { RegionOf (shifted from.x from.y to.x to.y (held self.now)) (held result) }
-        ensures exact { SameCells (has (held result)) (shifted from.x from.y to.x to.y (held self.now)) }
+        ensures region { RegionOf (shifted from to (held self.now)) (held result) }
+        ensures exact { SameCells (has (held result)) (shifted from to (held self.now)) }
     {
         let way = Way { from, to };
-        let mut part = self.cut(&staying_cells(way));
+        let mut part = self.cut(&of_box(way.staying()));
         part.boxes.shift(way);
         part
     }
@@ -145,10 +143,7 @@ impl From<Rect> for Region {
     ghost from_gives = { AsRegion };
 
     fn from(rect: Rect) -> Region {
-        match CellBox::of_rect(rect) {
-            Some(b) => single(b),
-            None => Region::empty(),
-        }
+        of_box(CellBox::of_rect(rect))
     }
 }
 

@@ -1,6 +1,6 @@
 use Rattle.std.proofs.Common.{sym, subst}
 use Rattle.boxes.specs.Banded.{Banded}
-use Rattle.region.proofs.Results.{none_banded}
+use Rattle.boxes.proofs.Laws.{none_banded}
 use Rattle.region.proofs.regions.Region.empty.Goals as goal
 
 pub invariant_of-result : goal.invariant_of-result

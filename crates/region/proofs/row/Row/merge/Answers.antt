@@ -1,8 +1,9 @@
 use Rattle.std.proofs.Common.{ℕ, ◌<◌, ◌≤◌, arith}
 use Rattle.std.proofs.lemmas.Bool.Decides.{nat_tests}
 use Rattle.region.specs.Rows.{edge_of, start_of}
-use Rattle.region.proofs.Runs.{along_edge, along_inside, along_past, along_start, drawn_merged, drawn_start, merge_draws, start_inside}
+use Rattle.region.proofs.Runs.{along_edge, along_inside, along_past, along_start, drawn_merged, drawn_start, merge_adds, merge_passes, start_inside}
 use Rattle.region.proofs.row.Row.merge.Goals as goal
+use Rattle.region.proofs.row.Row.merge.Goals.{then-keep, else-keep}
 
 pub loop-first-init : goal.loop-first-init
 loop-first-init c =
@@ -29,8 +30,10 @@ loop-first-preserved c =
       x = omega arith;
       first = rw c.past-first.ensures (along_past _ _ _ n l.invariant.first (omega arith) first);
       second = rw c.past-second.ensures (along_past _ _ _ n l.invariant.second (omega arith) second);
-      drawn = rw (c.draw.ensures, c.keep-kept.ensures, c.begun.ensures, c.begun-in-loop-first.ensures)
-          (merge_draws _ _ _ _ _ _ n l.invariant.first l.invariant.second first second _ past (omega arith) l.invariant.drawn);
+      drawn = elim c.if-keep.branch [
+        | then-keep w ↦ rw (w.self-is, w.add.ensures) (merge_adds _ _ _ _ _ _ n l.invariant.first l.invariant.second first second _ past (omega arith) l.invariant.drawn (cc))
+        | else-keep w ↦ rw w.self-is (merge_passes _ _ _ _ _ _ n l.invariant.first l.invariant.second first second _ past l.invariant.drawn (cc))
+      ];
     }
 
 pub returns : goal.returns
