@@ -1,7 +1,6 @@
 // What is asked of a line, and what it replies.
 #![tactic(auto)]
 
-ghost use Rattle.transfer.specs.Runs.{Answered, act, reply as told};
 ghost use Rattle.session.specs.Replies.{Responded};
 ghost use Rattle.std.specs.Prelude.{◌≡◌, MatchResult};
 
@@ -14,7 +13,7 @@ use line::Line;
 pub use pixels::{say_description, say_format, say_pixel};
 pub use regions::say_boxes;
 use std::alloc::{AllocError, Global};
-use transfer::{Answer, Call, carry, converse};
+use transfer::{Answer, Call, carry, make};
 pub use words::say;
 
 #[derive(Debug, PartialEq, Eq, Drop)]
@@ -39,18 +38,6 @@ pub enum Reply {
     Refused(Refusal),
 }
 
-// Makes one call.
-fn call<L: Line>(heap: Global, line: &mut L, call: Call) -> Result<Answer, AllocError>
-    ensures { MatchResult result (λ a. Answered (act call) (told a) (L.state line.old) (L.state line.new)) (λ _. L.state line.new ≡ L.state line.old) }
-{
-    let calls = vec![in heap; call]?;
-    let mut answers = converse(heap, line, &calls)?;
-    match answers.pop() {
-        Some(answer) => Ok(answer),
-        None => unreachable(),
-    }
-}
-
 // Carries bytes to memory of their length.
 fn carried<L: Line>(heap: Global, line: &mut L, bytes: Vec<u8>) -> Result<Reply, AllocError>
     ensures { MatchResult result (λ a. Responded (Request.Carry bytes) a (L.state line.old) (L.state line.new)) (λ _. L.state line.new ≡ L.state line.old) }
@@ -70,7 +57,7 @@ pub fn respond<L: Line>(heap: Global, line: &mut L, request: Request) -> Result<
     ensures { MatchResult result (λ a. Responded request a (L.state line.old) (L.state line.new)) (λ _. L.state line.new ≡ L.state line.old) }
 {
     match request {
-        Request::Make(made) => Ok(Reply::Made(call(heap, line, made)?)),
+        Request::Make(made) => Ok(Reply::Made(make(heap, line, &made)?)),
         Request::Queue => Ok(Reply::Queued {
             queued: line.queued(),
             readable: line.readable(),

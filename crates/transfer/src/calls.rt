@@ -31,7 +31,7 @@ fn receive<L: Line>(heap: Global, line: &mut L, most: usize) -> Result<Vec<u8>, 
 }
 
 // Makes one call. Where there is no memory for the bytes of a read, it is not made.
-fn make<L: Line>(heap: Global, line: &mut L, call: &Call) -> Result<Answer, AllocError>
+pub fn make<L: Line>(heap: Global, line: &mut L, call: &Call) -> Result<Answer, AllocError>
     ensures { MatchResult result (λ a. Answered (act call.now) (reply a) (L.state line.old) (L.state line.new)) (λ _. L.state line.new ≡ L.state line.old) }
 {
     match call {

@@ -17,7 +17,7 @@ fn send<L: Line>(line: &mut L, bytes: &[u8]) -> usize
 }
 
 // How many bytes the line has taken so far, and how many of them it has given.
-#[derive(Drop)]
+#[derive(Clone, Copy, PartialEq, Eq, Debug)]
 struct Trip {
     sent: usize,
     got: usize,
