@@ -2,7 +2,7 @@
 #![tactic(auto)]
 
 ghost use Rattle.session.specs.Replies.{Responded};
-ghost use Rattle.std.specs.Prelude.{◌≡◌, MatchResult};
+ghost use Rattle.transfer.specs.Runs.{OrUnchanged};
 
 mod pixels;
 mod regions;
@@ -40,7 +40,7 @@ pub enum Reply {
 
 // Carries bytes to memory of their length.
 fn carried<L: Line>(heap: Global, line: &mut L, bytes: Vec<u8>) -> Result<Reply, AllocError>
-    ensures { MatchResult result (λ a. Responded (Request.Carry bytes) a (L.state line.old) (L.state line.new)) (λ _. L.state line.new ≡ L.state line.old) }
+    ensures { OrUnchanged result (Responded (Request.Carry bytes)) (L.state line.old) (L.state line.new) }
 {
     let mut into = vec![in heap; 0; bytes.len()]?;
     match carry(line, &bytes, &mut into) {
@@ -54,7 +54,7 @@ fn carried<L: Line>(heap: Global, line: &mut L, bytes: Vec<u8>) -> Result<Reply,
 
 // Does what is requested of the line. Where memory runs out, nothing is done.
 pub fn respond<L: Line>(heap: Global, line: &mut L, request: Request) -> Result<Reply, AllocError>
-    ensures { MatchResult result (λ a. Responded request a (L.state line.old) (L.state line.new)) (λ _. L.state line.new ≡ L.state line.old) }
+    ensures { OrUnchanged result (Responded request) (L.state line.old) (L.state line.new) }
 {
     match request {
         Request::Make(made) => Ok(Reply::Made(make(heap, line, &made)?)),
