@@ -1,6 +1,6 @@
 // Lines of input, as bytes. Of a line that is too long only the start is kept, so that memory and
 // work stay bounded whatever comes in.
-ghost use Rattle.std.specs.Prelude.{All, IfOk, IfSome, ◌≢◌};
+ghost use Rattle.std.specs.Prelude.{◌≢◌, ◌+◌, ◌≤◌, length, All, IfOk, IfSome};
 
 use std::alloc::Global;
 use std::io;
@@ -28,18 +28,21 @@ impl Input {
     // The next line without its end, or `None` at the end of the input; the last line may lack its end.
     // Of a line that is too long one byte more than the longest is kept, and the rest is passed over.
     pub(crate) fn next(&mut self) -> io::Result<Option<&[u8]>>
-        ensures { IfOk result (λ next. IfSome next (λ line. All (λ b. b ≢ 10) line.now)) }
+        ensures one_line { IfOk result (λ next. IfSome next (λ line. All (λ b. b ≢ 10) line.now)) }
+        ensures bounded { IfOk result (λ next. IfSome next (λ line. length line.now ≤ LONGEST + 1)) }
     {
         self.line.clear();
         let mut start = self.reader.by_ref().take(LONGEST as u64 + 1);
         if start.read_until(b'\n', &mut self.line)? == 0 {
             return Ok(None);
         }
-        if let Some(line) = self.line.strip_suffix(b"\n") {
-            return Ok(Some(line));
+        if self.line.ends_with(b"\n") {
+            self.line.pop();
         }
         if self.line.len() > LONGEST {
             self.reader.skip_until(b'\n')?;
+            // No more than that was read, which the reader's contract does not say.
+            self.line.truncate(LONGEST + 1);
         }
         Ok(Some(&self.line))
     }

@@ -15,7 +15,7 @@ use std::alloc::{AllocError, Global};
 fn answer(heap: Global, state: &mut State, line: &[u8]) -> Result<String, AllocError> {
     if line.len() <= LONGEST {
         if let Some(command) = parse(heap, line)? {
-            return state.answer(heap, command);
+            return state.obey(heap, command);
         }
         if let Some(asked) = parse_region(line) {
             return state.change(heap, asked);
@@ -25,7 +25,7 @@ fn answer(heap: Global, state: &mut State, line: &[u8]) -> Result<String, AllocE
 }
 
 // Prints one line for each of the input, and none for an empty one and for a comment.
-fn run(rt: &HostRuntime) -> anyhow::Result<()> {
+fn main(rt: HostRuntime) -> anyhow::Result<()> {
     let heap = rt.alloc();
     let mut input = Input::new(heap, rt.stdin())?;
     let mut state = State::new();
@@ -35,12 +35,8 @@ fn run(rt: &HostRuntime) -> anyhow::Result<()> {
         };
         if !line.is_empty() && !line.starts_with(b"#") {
             let text = answer(heap, &mut state, line)?;
-            rt.println(text.as_str())?;
+            println!(rt; "{text}")?;
         }
     }
     Ok(())
-}
-
-fn main(rt: HostRuntime) -> anyhow::Result<()> {
-    run(&rt)
 }

@@ -29,7 +29,7 @@ impl Regions {
     }
 
     // Changes the region of that name, and answers its boxes in words.
-    pub(crate) fn answer(
+    pub(crate) fn change(
         &mut self,
         heap: Global,
         name: Name,

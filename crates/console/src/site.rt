@@ -14,7 +14,7 @@ pub enum Site {
 
 impl Site {
     // Does what is requested of the line, and answers in words.
-    pub(crate) fn answer(&mut self, heap: Global, request: Request) -> Result<String, AllocError> {
+    pub(crate) fn request(&mut self, heap: Global, request: Request) -> Result<String, AllocError> {
         let reply = match self {
             Site::Bare => return String::from_str(heap, "no line"),
             Site::Ring(line) => respond(heap, line, request),

@@ -21,14 +21,14 @@ impl State {
     }
 
     // Obeys a command, and answers in words.
-    pub(crate) fn answer(&mut self, heap: Global, command: Command) -> Result<String, AllocError> {
+    pub(crate) fn obey(&mut self, heap: Global, command: Command) -> Result<String, AllocError> {
         match command {
             Command::Line(kind, size) => self.site.lay(heap, kind, size),
             Command::Write(bytes) => self.call(heap, Call::Write(bytes)),
             Command::Read(most) => self.call(heap, Call::Read(most)),
             Command::Flush => self.call(heap, Call::Flush),
-            Command::Queue => self.site.answer(heap, Request::Queue),
-            Command::Carry(bytes) => self.site.answer(heap, Request::Carry(bytes)),
+            Command::Queue => self.site.request(heap, Request::Queue),
+            Command::Carry(bytes) => self.site.request(heap, Request::Carry(bytes)),
             Command::Pixel(format, native) => say_pixel(heap, format, native),
             Command::Describe(format) => say_description(heap, format),
             Command::Recognize(bytes) => say_format(heap, &bytes),
@@ -37,7 +37,7 @@ impl State {
 
     // Makes a call on the line, and answers in words.
     fn call(&mut self, heap: Global, call: Call) -> Result<String, AllocError> {
-        self.site.answer(heap, Request::Make(call))
+        self.site.request(heap, Request::Make(call))
     }
 
     // Changes a region as it is asked, and answers its boxes in words.
@@ -46,6 +46,6 @@ impl State {
         heap: Global,
         asked: RegionCommand,
     ) -> Result<String, AllocError> {
-        self.regions.answer(heap, asked.name, asked.change)
+        self.regions.change(heap, asked.name, asked.change)
     }
 }

@@ -1,4 +1,5 @@
 // A line that holds bytes back, and hands them to the line below only when it is flushed.
+ghost use Rattle.line.specs.declared.batch.TheConstants.{MOST};
 ghost use Rattle.std.specs.Prelude.{◌≤◌, length};
 
 mod methods;
@@ -13,5 +14,5 @@ const MOST: usize = 32;
 pub struct Batch<L> {
     below: L,
     held: ArrayVec<u8, MOST>,
-    ghost few: { length held.items ≤ 32 },
+    ghost few: { length held.items ≤ MOST },
 }

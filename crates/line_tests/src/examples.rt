@@ -2,7 +2,7 @@ use fault::{Refusal, Rejected};
 use line::{Batch, Line, Ring};
 use std::alloc::Global;
 use std::test::Fail;
-use transfer::{Answer, Call, carry, converse};
+use transfer::{Answer, Call, carry, converse, make};
 
 // A ring over memory of that many bytes.
 fn ring(heap: Global, size: usize) -> Result<Ring, Fail> {
@@ -132,6 +132,20 @@ fn calls_are_answered_one_by_one(rt: HostRuntime) -> Result<(), Fail> {
     assert!(rt;
         matches!(&answers[3], Answer::Gave(bytes) if bytes.as_slice() == b"471".as_slice())
     );
+    assert_eq!(rt; line.queued(), 1);
+    Ok(())
+}
+
+// A read gives a part of what can be read, and the rest stays.
+#[test]
+fn one_call_is_answered(rt: HostRuntime) -> Result<(), Fail> {
+    let heap = rt.alloc();
+    let mut line = Batch::new(ring(heap, 8)?);
+    let write = Call::Write(b"4711".to_vec(heap)?);
+    assert!(rt; make(heap, &mut line, &write)? == Answer::Took(4));
+    assert!(rt; make(heap, &mut line, &Call::Flush)? == Answer::Done);
+    let given = make(heap, &mut line, &Call::Read(3))?;
+    assert!(rt; given == Answer::Gave(b"471".to_vec(heap)?));
     assert_eq!(rt; line.queued(), 1);
     Ok(())
 }

@@ -1,9 +1,8 @@
 // What is asked of a line, and what it replies.
 #![tactic(auto)]
 
-ghost use Rattle.transfer.specs.Runs.{Answered, act, reply as told};
 ghost use Rattle.session.specs.Replies.{Responded};
-ghost use Rattle.std.specs.Prelude.{◌≡◌, MatchResult};
+ghost use Rattle.transfer.specs.Runs.{OrUnchanged};
 
 mod pixels;
 mod regions;
@@ -14,7 +13,7 @@ use line::Line;
 pub use pixels::{say_description, say_format, say_pixel};
 pub use regions::say_boxes;
 use std::alloc::{AllocError, Global};
-use transfer::{Answer, Call, carry, converse};
+use transfer::{Answer, Call, carry, make};
 pub use words::say;
 
 #[derive(Debug, PartialEq, Eq, Drop)]
@@ -39,21 +38,9 @@ pub enum Reply {
     Refused(Refusal),
 }
 
-// Makes one call.
-fn call<L: Line>(heap: Global, line: &mut L, call: Call) -> Result<Answer, AllocError>
-    ensures { MatchResult result (λ a. Answered (act call) (told a) (L.state line.old) (L.state line.new)) (λ _. L.state line.new ≡ L.state line.old) }
-{
-    let calls = vec![in heap; call]?;
-    let mut answers = converse(heap, line, &calls)?;
-    match answers.pop() {
-        Some(answer) => Ok(answer),
-        None => unreachable(),
-    }
-}
-
 // Carries bytes to memory of their length.
 fn carried<L: Line>(heap: Global, line: &mut L, bytes: Vec<u8>) -> Result<Reply, AllocError>
-    ensures { MatchResult result (λ a. Responded (Request.Carry bytes) a (L.state line.old) (L.state line.new)) (λ _. L.state line.new ≡ L.state line.old) }
+    ensures { OrUnchanged result (Responded (Request.Carry bytes)) (L.state line.old) (L.state line.new) }
 {
     let mut into = vec![in heap; 0; bytes.len()]?;
     match carry(line, &bytes, &mut into) {
@@ -67,10 +54,10 @@ fn carried<L: Line>(heap: Global, line: &mut L, bytes: Vec<u8>) -> Result<Reply,
 
 // Does what is requested of the line. Where memory runs out, nothing is done.
 pub fn respond<L: Line>(heap: Global, line: &mut L, request: Request) -> Result<Reply, AllocError>
-    ensures { MatchResult result (λ a. Responded request a (L.state line.old) (L.state line.new)) (λ _. L.state line.new ≡ L.state line.old) }
+    ensures { OrUnchanged result (Responded request) (L.state line.old) (L.state line.new) }
 {
     match request {
-        Request::Make(made) => Ok(Reply::Made(call(heap, line, made)?)),
+        Request::Make(made) => Ok(Reply::Made(make(heap, line, &made)?)),
         Request::Queue => Ok(Reply::Queued {
             queued: line.queued(),
             readable: line.readable(),

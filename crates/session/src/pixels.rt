@@ -15,9 +15,7 @@ pub fn say_pixel(heap: Global, format: Format, native: u8) -> Result<String, All
     ensures { Writes result (hex_of (pixel_bytes format (translated format native))) }
 {
     let mut out = [0; 4];
-    let Some(count) = format.write(format.translate(native), &mut out) else {
-        unreachable()
-    };
+    let count = format.write(format.translate(native), &mut out).unwrap();
     hex(heap, &out[0..count])
 }
 

@@ -10,14 +10,14 @@ use std::fmt;
 
 // A box behind a space: its corner, its width and its height.
 #[derive(Clone, Copy)]
-struct BoxText<'a>(&'a CellBox);
+struct BoxText(CellBox);
 
-impl fmt::Display for BoxText<'_> {
-    ghost output = { λ t. Some (box_words t.0.now) };
+impl fmt::Display for BoxText {
+    ghost output = { λ t. Some (box_words t.0) };
 
     #[tactic(auto, using(notation::proofs::Printed::printed_decimal))]
     fn fmt<W: fmt::Write>(&self, f: &mut fmt::Formatter<W>) -> fmt::Result {
-        let Rect { x, y, w, h } = Rect::from(*self.0);
+        let Rect { x, y, w, h } = Rect::from(self.0);
         write!(f, " {x},{y},{w},{h}")
     }
 }
@@ -32,7 +32,7 @@ impl fmt::Display for BoxesText<'_> {
     #[tactic(auto, using(notation::proofs::Printed::printed_decimal))]
     fn fmt<W: fmt::Write>(&self, f: &mut fmt::Formatter<W>) -> fmt::Result {
         write!(f, "{}", self.0.len())?;
-        for cells in self.0 {
+        for &cells in self.0 {
             write!(f, "{}", BoxText(cells))?;
         }
         Ok(())

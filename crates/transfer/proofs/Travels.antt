@@ -3,16 +3,17 @@ use Rattle.std.proofs.Common.{◌≡◌, ℕ, suc, ◌+◌, ◌-◌, ◌<◌, �
 use borrow.Rule.Slice.PartMut.{put_mid}
 use Rattle.std.proofs.lemmas.List.{drop_all, drop_at, drop-drop, length-append, length-drop, length-take, length-take-le, take_all, take-append-drop, take_at, take_rest, same_lists, places}
 use Rattle.line.specs.Rules.{State, Within, Opens, Wrote, Read, Flushed}
+use Rattle.transfer.specs.declared.trip.Trip.{Trip}
 use Rattle.transfer.specs.Runs.{Ran, Received, write, flush, took, done}
 use Rattle.transfer.specs.Rounds.{Rounds, Advanced, Carried}
 
 -- How far a line has come: it has taken `sent` of the bytes and given `got` of those, which lie at
 -- the start of the memory `into`.
-pub record Underway (bytes into₀ : List ℕ) (sent got : ℕ) (into : List ℕ) (state : State) : Type 0 where
-  pub sent_most : sent ≤ length bytes
-  pub got_most : got ≤ sent
-  pub queued : state.queue ≡ drop got (take sent bytes)
-  pub arrived : into ≡ take got bytes ++ drop got into₀
+pub record Underway (bytes into₀ : List ℕ) (trip : Trip) (into : List ℕ) (state : State) : Type 0 where
+  pub sent_most : trip.sent ≤ length bytes
+  pub got_most : trip.got ≤ trip.sent
+  pub queued : state.queue ≡ drop trip.got (take trip.sent bytes)
+  pub arrived : into ≡ take trip.got bytes ++ drop trip.got into₀
 
 -- a read into the part `got..end` of the memory
 placed :
@@ -23,11 +24,13 @@ placed into q part got end n a b l e =
 
 -- a write and a flush, and then a read, are a round
 pub advanced :
-    (bytes into part : List ℕ) (sent got taken n : ℕ) (s o t : State) → got ≤ length bytes → length bytes ≤ length into
-    → Ran (write (take (length bytes - sent) (drop sent bytes)) ∷ flush ∷ []) (took taken ∷ done ∷ []) s o
-    → Within o.queue o.ready → Read (take (length bytes - got) (drop got into)) n part o t
-    → Advanced bytes sent got (sent + taken) (got + n) into (put_mid got (length bytes - got) into part) s t
-advanced bytes into part sent got taken n s o t a b w l r =
+    (bytes into part : List ℕ) (trip : Trip) (taken n : ℕ) (s o t : State) → trip.got ≤ length bytes → length bytes ≤ length into
+    → Ran (write (take (length bytes - trip.sent) (drop trip.sent bytes)) ∷ flush ∷ []) (took taken ∷ done ∷ []) s o
+    → Within o.queue o.ready → Read (take (length bytes - trip.got) (drop trip.got into)) n part o t
+    → Advanced bytes trip (record { sent = trip.sent + taken; got = trip.got + n }) into (put_mid trip.got (length bytes - trip.got) into part) s t
+advanced bytes into part trip taken n s o t a b w l r =
+    let sent = trip.sent in
+    let got = trip.got in
     let k = length bytes - got in
     let part-long : length (take k (drop got into)) ≡ k = simp (length-take, length-drop) (omega arith) in
     let count : n ≡ min k o.ready = r.count ∙ ap (λ z. min z o.ready) part-long in
@@ -64,9 +67,13 @@ front_of bytes got sent n l = same_lists _ _ (grind (arith, places)) (λ i d h. 
 -- A round keeps the bytes in order, and at least one of them arrives: something was queued, or the
 -- empty line took some; and flushed, the line gives some.
 underway_more :
-    (bytes into₀ into into' : List ℕ) (sent got sent' got' : ℕ) (s t : State) → length bytes ≤ length into₀ → got < length bytes → Opens s.queue s.room
-    → Underway bytes into₀ sent got into s → Advanced bytes sent got sent' got' into into' s t → Underway bytes into₀ sent' got' into' t × (got < got')
-underway_more bytes into₀ into into' sent got sent' got' s t a l opens u v =
+    (bytes into₀ into into' : List ℕ) (trip trip' : Trip) (s t : State) → length bytes ≤ length into₀ → trip.got < length bytes → Opens s.queue s.room
+    → Underway bytes into₀ trip into s → Advanced bytes trip trip' into into' s t → Underway bytes into₀ trip' into' t × (trip.got < trip'.got)
+underway_more bytes into₀ into into' trip trip' s t a l opens u v =
+    let sent = trip.sent in
+    let got = trip.got in
+    let sent' = trip'.sent in
+    let got' = trip'.got in
     let m = v.round.0 in
     let o = v.round.2.0 in
     let wrote = v.round.1 in
@@ -106,41 +113,41 @@ underway_more bytes into₀ into into' sent got sent' got' s t a l opens u v =
     )
 
 -- a byte string under way for `rounds` rounds, and how the rounds to come go on from those
-pub record Travelling (bytes into₀ : List ℕ) (s₀ : State) (sent got rounds : ℕ) (into : List ℕ) (s : State) : Type 0 where
-  pub underway : Underway bytes into₀ sent got into s
-  pub few : rounds ≤ got
-  pub history : (n : ℕ) (t : State) → Rounds n bytes sent got s t → Rounds (rounds + n) bytes 0 0 s₀ t
+pub record Travelling (bytes into₀ : List ℕ) (s₀ : State) (trip : Trip) (rounds : ℕ) (into : List ℕ) (s : State) : Type 0 where
+  pub underway : Underway bytes into₀ trip into s
+  pub few : rounds ≤ trip.got
+  pub history : (n : ℕ) (t : State) → Rounds n bytes trip.sent trip.got s t → Rounds (rounds + n) bytes 0 0 s₀ t
 
 -- one round more
 pub onward :
-    (bytes into₀ into into' : List ℕ) (s₀ s t : State) (sent got sent' got' rounds : ℕ) → length bytes ≤ length into₀ → got < length bytes → Opens s.queue s.room
-    → Travelling bytes into₀ s₀ sent got rounds into s → Advanced bytes sent got sent' got' into into' s t
-    → Travelling bytes into₀ s₀ sent' got' (rounds + 1) into' t
-onward bytes into₀ into into' s₀ s t sent got sent' got' rounds a l opens w v =
-    let on = underway_more bytes into₀ into into' sent got sent' got' s t a l opens w.underway v in
+    (bytes into₀ into into' : List ℕ) (s₀ s t : State) (trip trip' : Trip) (rounds : ℕ) → length bytes ≤ length into₀ → trip.got < length bytes
+    → Opens s.queue s.room → Travelling bytes into₀ s₀ trip rounds into s → Advanced bytes trip trip' into into' s t
+    → Travelling bytes into₀ s₀ trip' (rounds + 1) into' t
+onward bytes into₀ into into' s₀ s t trip trip' rounds a l opens w v =
+    let on = underway_more bytes into₀ into into' trip trip' s t a l opens w.underway v in
     let few = w.few in
     let further = on.1 in
     record {
       underway = on.0;
       few = omega arith;
       history = λ n z h.
-          let rest : Rounds n bytes (sent + v.taken) (got + length v.new) t z =
-          subst (λ (k : ℕ). Rounds n bytes (sent + v.taken) k t z) v.got_is (subst (λ (k : ℕ). Rounds n bytes k got' t z) v.sent_is h) in
+          let rest : Rounds n bytes (trip.sent + v.taken) (trip.got + length v.new) t z =
+          subst (λ (k : ℕ). Rounds n bytes (trip.sent + v.taken) k t z) v.got_is (subst (λ (k : ℕ). Rounds n bytes k trip'.got t z) v.sent_is h) in
           subst (λ (k : ℕ). Rounds k bytes 0 0 s₀ z) (omega arith) (w.history (suc n) z (l, v.taken, v.new, t, v.round, rest));
     }
 
 -- where all have arrived, they are all there is
 pub arrived :
-    (bytes into₀ into : List ℕ) (s₀ s : State) (sent got rounds : ℕ) → length bytes ≤ got → Travelling bytes into₀ s₀ sent got rounds into s → Carried rounds bytes into₀ into s₀ s
-arrived bytes into₀ into s₀ s sent got rounds l w =
+    (bytes into₀ into : List ℕ) (s₀ s : State) (trip : Trip) (rounds : ℕ) → length bytes ≤ trip.got → Travelling bytes into₀ s₀ trip rounds into s → Carried rounds bytes into₀ into s₀ s
+arrived bytes into₀ into s₀ s trip rounds l w =
     let u = w.underway in
     let sent_most = u.sent_most in
     let got_most = u.got_most in
     let few = w.few in
-    let all : got ≡ length bytes = omega arith in
+    let all : trip.got ≡ length bytes = omega arith in
     record {
       arrived = u.arrived ∙ ap (λ z. take z bytes ++ drop z into₀) all ∙ ap (λ z. z ++ drop (length bytes) into₀) (take_all (length bytes) bytes (omega arith));
       soon = omega arith;
-      emptied = u.queued ∙ drop_all got (take sent bytes) (simp length-take (omega arith));
+      emptied = u.queued ∙ drop_all trip.got (take trip.sent bytes) (simp length-take (omega arith));
       history = subst (λ (n : ℕ). Rounds n bytes 0 0 s₀ s) (add-zero rounds) (w.history 0 s (l, refl));
     }

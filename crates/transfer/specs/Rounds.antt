@@ -3,6 +3,7 @@ use Rattle.std.specs.Prelude.{◌≡◌, ℕ, zero, suc, ◌+◌, ◌-◌, ◌<�
 use Rattle.line.specs.Rules.{State}
 use Rattle.fault.specs.declared.Refusal.{Refusal}
 use Rattle.fault.specs.declared.Refusal.TheVariants.{Memory, Waiting}
+use Rattle.transfer.specs.declared.trip.Trip.{Trip}
 use Rattle.transfer.specs.Runs.{write, read, flush, took, gave, done, Ran}
 
 -- One round, of which `new` are the bytes that arrive: what is not yet taken is written, the line
@@ -37,10 +38,10 @@ pub record Carried (rounds : ℕ) (bytes into into' : List ℕ) (before after : 
   pub history : Rounds rounds bytes 0 0 before after
 
 -- A round took the line further, and put the bytes that arrived where they belong.
-pub record Advanced (bytes : List ℕ) (sent got sent' got' : ℕ) (into into' : List ℕ) (before after : State) : Type 0 where
+pub record Advanced (bytes : List ℕ) (trip trip' : Trip) (into into' : List ℕ) (before after : State) : Type 0 where
   pub taken : ℕ
   pub new : List ℕ
-  pub round : Round bytes sent got taken new before after
-  pub sent_is : sent' ≡ sent + taken
-  pub got_is : got' ≡ got + length new
-  pub into_is : into' ≡ take got into ++ (new ++ drop got' into)
+  pub round : Round bytes trip.sent trip.got taken new before after
+  pub sent_is : trip'.sent ≡ trip.sent + taken
+  pub got_is : trip'.got ≡ trip.got + length new
+  pub into_is : into' ≡ take trip.got into ++ (new ++ drop trip'.got into)

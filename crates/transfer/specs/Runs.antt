@@ -1,5 +1,5 @@
 -- Lists of calls to a line, what they answer, and the bytes that pass.
-use Rattle.std.specs.Prelude.{◌≡◌, ℕ, ◌-◌, ◌≤◌, min, List, [], ◌∷◌, ◌++◌, length, take, vec_items}
+use Rattle.std.specs.Prelude.{◌≡◌, ℕ, ◌-◌, ◌≤◌, min, List, [], ◌∷◌, ◌++◌, length, take, vec_items, Result, MatchResult}
 use Rattle.line.specs.Rules.{State, Wrote, Flushed}
 use Rattle.transfer.specs.declared.calls.Call.{Call}
 use Rattle.transfer.specs.declared.calls.Call.TheVariants.{Write, Read, Flush}
@@ -39,6 +39,10 @@ Answered (write bytes) (took count) before after = Wrote bytes count before afte
 Answered (read most) (gave bytes) before after = Received most bytes before after
 Answered flush done before after = Flushed before after
 Answered a r before after = ⊥
+
+-- Where there is a result, the line was left as `Left` has it of that result; else it is as it was.
+abbrev pub OrUnchanged : {A E : Type 0} → Result A E → (A → State → State → Type 0) → State → State → Type 0
+OrUnchanged result Left before after = MatchResult result (λ a. Left a before after) (λ _. after ≡ before)
 
 -- Calls made one after another, with an answer to each.
 abbrev pub Ran : List Act → List Reply → State → State → Type 0

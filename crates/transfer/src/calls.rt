@@ -1,6 +1,6 @@
 // Calls to a line as values, so that a whole list of them can be made.
-ghost use Rattle.transfer.specs.Runs.{Answered, Conserved, Ran, Received, Stopped, act, reply};
-ghost use Rattle.std.specs.Prelude.{◌≡◌, map, IfOk, MatchResult};
+ghost use Rattle.transfer.specs.Runs.{Answered, Conserved, OrUnchanged, Ran, Received, Stopped, act, reply};
+ghost use Rattle.std.specs.Prelude.{map, IfOk, MatchResult};
 
 use line::Line;
 use std::alloc::{AllocError, Global};
@@ -22,7 +22,7 @@ pub enum Answer {
 
 // Reads at most `most` bytes. Where there is no memory for that many, nothing is read.
 fn receive<L: Line>(heap: Global, line: &mut L, most: usize) -> Result<Vec<u8>, AllocError>
-    ensures { MatchResult result (λ v. Received most v.items (L.state line.old) (L.state line.new)) (λ _. L.state line.new ≡ L.state line.old) }
+    ensures { OrUnchanged result (λ v. Received most v.items) (L.state line.old) (L.state line.new) }
 {
     let mut into = vec![in heap; 0; most]?;
     let given = line.read(&mut into);
@@ -31,8 +31,8 @@ fn receive<L: Line>(heap: Global, line: &mut L, most: usize) -> Result<Vec<u8>, 
 }
 
 // Makes one call. Where there is no memory for the bytes of a read, it is not made.
-fn make<L: Line>(heap: Global, line: &mut L, call: &Call) -> Result<Answer, AllocError>
-    ensures { MatchResult result (λ a. Answered (act call.now) (reply a) (L.state line.old) (L.state line.new)) (λ _. L.state line.new ≡ L.state line.old) }
+pub fn make<L: Line>(heap: Global, line: &mut L, call: &Call) -> Result<Answer, AllocError>
+    ensures { OrUnchanged result (λ a. Answered (act call.now) (reply a)) (L.state line.old) (L.state line.new) }
 {
     match call {
         Call::Write(bytes) => Ok(Answer::Took(line.write(bytes))),

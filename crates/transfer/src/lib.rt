@@ -4,5 +4,5 @@
 mod calls;
 mod trip;
 
-pub use calls::{Answer, Call, converse};
+pub use calls::{Answer, Call, converse, make};
 pub use trip::carry;

@@ -17,7 +17,7 @@ fn send<L: Line>(line: &mut L, bytes: &[u8]) -> usize
 }
 
 // How many bytes the line has taken so far, and how many of them it has given.
-#[derive(Drop)]
+#[derive(Clone, Copy, PartialEq, Eq, Debug)]
 struct Trip {
     sent: usize,
     got: usize,
@@ -30,7 +30,7 @@ impl Trip {
         requires sent { self.old.sent ≤ length bytes.now }
         requires got { self.old.got ≤ length bytes.now }
         requires memory { length bytes.now ≤ length into.old }
-        ensures { Advanced bytes.now self.old.sent self.old.got self.new.sent self.new.got into.old into.new (L.state line.old) (L.state line.new) }
+        ensures { Advanced bytes.now self.old self.new into.old into.new (L.state line.old) (L.state line.new) }
     {
         self.sent += send(line, &bytes[self.sent..]);
         self.got += line.read(&mut into[self.got..bytes.len()]);

@@ -73,7 +73,7 @@ impl Ring {
     }
 }
 
-// Copies `bytes` into the memory from `at` on, in the same two runs.
+// Copies `bytes` into the memory from `at` on, in two runs: up to its end, and from its start.
 #[tactic(auto, using(crate::proofs::Around::stored))]
 fn store(memory: &mut [u8], at: usize, bytes: &[u8])
     requires { (at < length memory.old) × (length bytes.now ≤ length memory.old) }
