@@ -1,7 +1,7 @@
 // What a few boxes do.
 ghost use Rattle.boxes.specs.Strips.{lower_all};
 ghost use Rattle.boxes.specs.declared.cell_box.CellBox.{CellBox};
-ghost use Rattle.region.specs.Listed.{Gives, listed, widened_last};
+ghost use Rattle.region.specs.Listed.{Gives, listed, widened, widened_last};
 ghost use Rattle.region.specs.Shifts.{move_onto};
 ghost use Rattle.std.specs.Prelude.{◌≡◌, ◌+◌, ◌<◌, ◌≤◌, [], ◌∷◌, ◌++◌, drop, length, map, take};
 
@@ -17,6 +17,13 @@ fn change_all<F: Fn(CellBox) -> CellBox>(boxes: &mut [CellBox], change: F)
     for b in boxes.iter_mut() {
         *b = change(*b);
     }
+}
+
+// Moves the right edge of a box that is lent.
+fn widen(b: &mut CellBox, right: u16)
+    ensures { b.new ≡ widened right b.old }
+{
+    b.right = right;
 }
 
 impl<const N: usize> Few<N> {
@@ -79,7 +86,7 @@ impl<const N: usize> Few<N> {
         ensures { listed self.new ≡ widened_last right (listed self.old) }
     {
         if self.count > 0 {
-            self.boxes[self.count - 1].right = right;
+            widen(&mut self.boxes[self.count - 1], right);
         }
     }
 
