@@ -10,6 +10,9 @@ use std::rt::Stdin;
 // A line of more bytes is no command.
 pub const LONGEST: usize = 200_000;
 
+// How many bytes of a line are read at most: one more tells that it is too long.
+const START: u64 = 200_001;
+
 // Standard input, line by line.
 #[derive(Drop)]
 pub struct Input {
@@ -32,7 +35,7 @@ impl Input {
         ensures bounded { IfOk result (λ next. IfSome next (λ line. length line.now ≤ LONGEST + 1)) }
     {
         self.line.clear();
-        let mut start = self.reader.by_ref().take(LONGEST as u64 + 1);
+        let mut start = self.reader.by_ref().take(START);
         if start.read_until(b'\n', &mut self.line)? == 0 {
             return Ok(None);
         }

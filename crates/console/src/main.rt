@@ -29,6 +29,7 @@ fn main(rt: HostRuntime) -> anyhow::Result<()> {
     let heap = rt.alloc();
     let mut input = Input::new(heap, rt.stdin())?;
     let mut state = State::new();
+    // It goes on to the end of the input; a count is the form that the kit has for such a loop.
     for _ in 0..u64::MAX {
         let Some(line) = input.next()? else {
             break;

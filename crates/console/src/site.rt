@@ -1,4 +1,5 @@
-// The line that commands are about: none at first.
+// The line that commands are about: none at first. Each type of line has an arm, since a `dyn` line
+// cannot be passed for a type parameter.
 use command::Kind;
 use line::{Batch, Ring};
 use session::{Reply, Request, respond, say};

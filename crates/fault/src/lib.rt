@@ -21,7 +21,8 @@ pub enum Refusal {
 }
 
 impl Refusal {
-    // The number by which the refusal is reported; no other refusal has it.
+    // The number by which the refusal is reported; no other refusal has it. A method, so that a caller
+    // reads which number it is.
     pub fn number(self) -> u8
         ensures value { result ≡ number_of self }
         ensures alone { (other : Refusal) → number_of other ≡ result → other ≡ self }

@@ -3,7 +3,8 @@ ghost use Rattle.std.specs.Prelude.{◌<◌, ◌≤◌, vec_len};
 
 mod methods;
 
-// The queued bytes begin at `head` and go on, past the memory's end, from its start.
+// The queued bytes begin at `head` and go on, past the memory's end, from its start. The memory is
+// handed over and stays as long as it is, so it is no growing queue of the library's.
 #[derive(Drop)]
 pub struct Ring {
     memory: Vec<u8>,

@@ -6,6 +6,7 @@ use line::{Batch, Line, Ring};
 use std::test::Fail;
 use transfer::carry;
 
+// `awake` is a state and no more: no value stands beside it.
 #[derive(Drop)]
 struct Drip<L> {
     below: L,

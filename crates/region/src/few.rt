@@ -5,7 +5,8 @@ mod methods;
 
 use boxes::CellBox;
 
-// At most N boxes, in order: the first `count` of `boxes`.
+// At most N boxes, in order: the first `count` of `boxes`. It can be copied, as a region can, and the
+// library's `ArrayVec` cannot.
 #[derive(Clone, Copy)]
 pub struct Few<const N: usize> {
     boxes: [CellBox; N],

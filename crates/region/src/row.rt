@@ -68,6 +68,8 @@ impl Row {
     }
 }
 
+// What is asked of runs along a row is what a `Place` is asked of bands, but for which edges are meant.
+
 // The column where the runs begin; 256 where there are none.
 fn start(runs: &[CellBox]) -> u16
     ensures { result ≡ start_of runs.now }

@@ -51,6 +51,7 @@ pub(crate) fn sweep(operation: Operation, first: &[CellBox], second: &[CellBox])
     let mut p = Place::new(first);
     let mut q = Place::new(second);
     let mut y = 0;
+    // From edge to edge, not from row to row.
     while y < 256 {
         let next = p.turn(y).min(q.turn(y));
         strip(

@@ -1,5 +1,6 @@
 // Painting on a screen. Its cells lie row by row from the top left, in memory that may go on behind
-// them. What is painted beyond the screen is left out.
+// them. What is painted beyond the screen is left out. The memory is passed with the sides each time:
+// of a slice that a `Result` hands on nothing is known afterwards.
 ghost use Rattle.screen.specs.Paints.{Painted, block_cell, copy_refusal, fill_refusal, moved_to, plain, put_refusal, source_cell};
 ghost use Rattle.std.specs.Result.{result_err};
 ghost use Rattle.std.specs.Prelude.{◌≡◌, [], ◌∷◌, MatchResult};
@@ -27,6 +28,7 @@ pub fn fill<T: Copy>(cells: &mut [T], sides: Sides, rect: Rect, value: T) -> Res
     fits(cells, sides)?;
     let part = rect.cut(sides);
     for row in 0..part.h {
+        // `fill` would ask what a clone of the value is.
         cells[sides.run(part.x, part.y + row, part.w)].fill_with(|| value);
     }
     Ok(())

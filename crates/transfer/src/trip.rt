@@ -45,6 +45,7 @@ fn travel<L: Line>(line: &mut L, bytes: &[u8], into: &mut [u8]) -> usize
 {
     let mut trip = Trip { sent: 0, got: 0 };
     let mut rounds = 0;
+    // It ends when all has arrived; the count is only what is answered.
     while trip.got < bytes.len() {
         trip.go_on(line, bytes, into);
         rounds += 1;
