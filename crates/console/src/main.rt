@@ -11,7 +11,7 @@ use input::{Input, LONGEST};
 use state::State;
 use std::alloc::{AllocError, Global};
 
-// The answer to a line.
+// The answer to a line. There are two readers, and the first asks for memory.
 fn answer(heap: Global, state: &mut State, line: &[u8]) -> Result<String, AllocError> {
     if line.len() <= LONGEST {
         if let Some(command) = parse(heap, line)? {

@@ -15,10 +15,6 @@ use Rattle.notation.specs.Reads.{Reads}
 abbrev pub digits_text : ℕ → List ℕ
 digits_text n = map (λ d. 48 + d) (digits_of 10 n)
 
-pub decimal_some : (n : ℕ) → 0 < n → decimal n ≡ digits_text n
-decimal_some zero h = absurd (omega arith)
-decimal_some (suc n) h = refl
-
 pub digits_push : (n d : ℕ) → d < 10 → 0 < n * 10 + d → digits_text (n * 10 + d) ≡ digits_text n ++ (48 + d) ∷ []
 digits_push n d small some =
     let q : (n * 10 + d) / 10 ≡ n = omega arith in

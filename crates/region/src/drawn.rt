@@ -6,7 +6,7 @@ mod methods;
 
 use crate::few::Few;
 
-// Those from `start` on are the last band's.
+// Those from `start` on are the last band's: a slice of the boxes cannot stand beside them.
 #[derive(Clone, Copy)]
 pub struct Drawn {
     pub boxes: Few<32>,

@@ -63,7 +63,8 @@ impl Work {
         }
     }
 
-    // Adds the rows from `top` up to `bottom`, each with the same runs.
+    // Adds the rows from `top` up to `bottom`, each with the same runs. These stay three parameters: a
+    // struct of them would be made for each call, and taken apart again for the boxes.
     #[tactic(auto, using(crate::proofs::Holding::adds_none, crate::proofs::Holding::stretched_none))]
     pub(crate) fn add(&mut self, top: u16, bottom: u16, runs: &[CellBox])
         ensures adds { Adds top bottom (spans runs.now) self.old self.new }

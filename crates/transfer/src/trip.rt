@@ -16,7 +16,8 @@ fn send<L: Line>(line: &mut L, bytes: &[u8]) -> usize
     taken
 }
 
-// How many bytes the line has taken so far, and how many of them it has given.
+// How many bytes the line has taken so far, and how many of them it has given. The line and the memory
+// are no fields: each clause would then name what lies behind a field.
 #[derive(Clone, Copy, PartialEq, Eq, Debug)]
 struct Trip {
     sent: usize,
