@@ -46,6 +46,13 @@ cover_within bs k j p q =
     let b' = box_parts j b.0 b.1 (q b.0 b.1 b.3) in
     ((box_parts j k.left l.0 (q k.left l.0 l.1)).0, (box_parts j t.0 k.top (q t.0 k.top t.1)).2, omega (arith, r'.1, r.2), omega (arith, b'.3, b.2))
 
+-- two covers of a list are one box
+pub cover_same : (bs : List CellBox) (k j : CellBox) → Cover bs k → Cover bs j → k ≡ j
+cover_same bs k j p q =
+    let a = cover_within bs k j p q.around in
+    let b = cover_within bs j k q p.around in
+    box_same k j (omega arith) (omega arith) (omega arith) (omega arith)
+
 -- a cover is the least box over the cells
 pub cover_least : (bs : List CellBox) (k : CellBox) → Cover bs k → Least bs k
 cover_least bs k c =
@@ -129,6 +136,10 @@ covering_cover b bs k = proper_cover b bs k.proper
 pub covering_proper : (b : CellBox) (bs : List CellBox) → Banded (b ∷ bs) → Proper (covering (b ∷ bs))
 covering_proper b bs k = proper_proper b bs k.proper
 
+-- it is the only box that is around the cells, with each side at one
+pub cover_is : (b : CellBox) (bs : List CellBox) (k : CellBox) → Banded (b ∷ bs) → Cover (b ∷ bs) k → k ≡ covering (b ∷ bs)
+cover_is b bs k h c = cover_same (b ∷ bs) k (covering (b ∷ bs)) c (covering_cover b bs h)
+
 -- it is the least box over the cells
 pub covers : Covers
 covers b bs k = cover_least (b ∷ bs) (covering (b ∷ bs)) (covering_cover b bs k)
@@ -143,6 +154,16 @@ box_within p q w h f =
     let a = box_parts q p.left p.top (f p.left p.top (box_from p p.left p.top (omega arith) w (omega arith) h)) in
     let b = box_parts q x y (f x y (box_from p x y (omega arith) (omega arith) (omega arith) (omega arith))) in
     (a.0, a.2, omega arith, omega arith)
+
+-- it is the only least box over the cells
+pub covering_least : (b : CellBox) (bs : List CellBox) (k : CellBox) → Banded (b ∷ bs) → Least (b ∷ bs) k → k ≡ covering (b ∷ bs)
+covering_least b bs k h l =
+    let j : CellBox = covering (b ∷ bs) in
+    let c = covering_cover b bs h in
+    let w = covering_proper b bs h in
+    let p = cover_within (b ∷ bs) j k c l.around in
+    let q = box_within k j (omega arith) (omega arith) (l.least j c.around) in
+    box_same k j (omega arith) (omega arith) (omega arith) (omega arith)
 
 -- what stands in a region is banded
 pub limited_banded : (bs : List CellBox) → Banded bs → Banded (limited bs)

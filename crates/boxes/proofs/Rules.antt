@@ -113,6 +113,10 @@ edges_piled t (d ∷ ds) y k =
     ∙ either_row (between d.top d.bottom y) (row_of ds y) d.row
     (λ h. piled_before d.top ds y k.4 (between_true d.top d.bottom y h).0)
 
+-- the edges of a row of a stack are the row's runs
+pub edges_flat : (t : ℕ) (p : List Span) (ds : List Band) (y : ℕ) → Stack t p ds → edges_at (flat ds) y ≡ row_of ds y
+edges_flat t p ds y k = edges_piled t ds y (stack_piled t p ds k)
+
 -- the boxes of a band
 every_band : (P : CellBox → Type 0) (t e l : ℕ) (ss : List Span) → Apart l ss
     → ((b : CellBox) → b.top ≡ t → b.bottom ≡ e → l ≤ b.left → b.left < b.right → b.right ≤ 256 → P b)

@@ -121,6 +121,10 @@ module _ (from to : Corner) where
       shift_from bs [] b none_banded (omega arith)
       (λ x y. sym (and_right (has bs x y) (in_box k x y || false) (or-false (in_box k x y) ∙ no_cells k h x y)))
 
-  -- where no cell stays, a region cut by no box has none to move
+  -- where no cell stays, the region of the cells shifted has no box
+  pub shift_none : (bs : List CellBox) → Banded bs → Void (staying from to) → RegionOf (shifted from to bs) []
+  shift_none bs b h = (shift_empty bs b h).region
+
+  -- and a region cut by no box, moved, is that one
   pub shift_cut_none : (bs cs : List CellBox) → Banded bs → Void (staying from to) → RegionOf (both bs []) cs → Shift from to bs cs
   shift_cut_none bs cs b h r = subst (λ l. Shift from to bs l) (sym (cut_by_none bs cs r)) (shift_empty bs b h)

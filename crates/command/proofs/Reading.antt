@@ -1,5 +1,5 @@
 -- What is left to show where a text's first word has been read.
-use Rattle.std.proofs.Common.{◌≡◌, ℕ, ◌^◌, ◌<◌, ◌≤◌, Bool, true, false, List, length, Some, None, Ok, Err, codes, eqb, leb, Option, Result, Vec, vec_items, refl, sym, ap, ◌∙◌, subst, arith, rules, MatchOption}
+use Rattle.std.proofs.Common.{◌≡◌, ℕ, ◌^◌, ◌<◌, ◌≤◌, Bool, true, false, List, length, Some, None, Ok, Err, codes, eqb, leb, Option, Result, Vec, vec_items, refl, sym, ap, ◌∙◌, subst, lit≤, arith, rules, MatchOption}
 use Rattle.std.specs.Bool.{Decides, then_some}
 use Rattle.std.specs.declared.alloc.Global.{Global}
 use Rattle.std.specs.List.{list_all}
@@ -16,7 +16,7 @@ use Rattle.notation.specs.Reads.{Reads, ReadsBytes}
 use Rattle.notation.proofs.Numbers.{decimal_tells}
 use Rattle.notation.proofs.Pairs.{unhex, unhex-hex_of}
 use Rattle.command.specs.Grammar.{Spells, kind_word, read_limit}
-use Rattle.command.specs.Spaces.{Begins, Unspaced, spaced}
+use Rattle.command.specs.Spaces.{Begins, Unspaced, longest, spaced}
 use Rattle.command.specs.Unspaced.{not_space, no_space_in}
 use Rattle.command.specs.declared.Command.{Command}
 use Rattle.command.specs.declared.Command.TheVariants.{Line, Write, Read, Flush, Queue, Carry, Pixel, Describe, Recognize}
@@ -125,21 +125,21 @@ described text (Some v) r s e = subst (λ z. Reads Spells z (spaced (codes "form
         let same : vec_items v ≡ bs = sym (unhex-hex_of (vec_items v) s.0) ∙ ap unhex (sym s.1 ∙ e) ∙ unhex-hex_of bs p in
         true≢false (sym (d.1 (size ∙ ap length same ∙ l))))
 
--- a text with no space is a form with no words behind the first
+-- a text with no space behind a first word is a form with no words behind the first
 pub lone_only :
-    (o : Option Command) (text : List ℕ) → ((word rest : List ℕ) → text ≡ spaced word rest → ⊥)
+    (o : Option Command) (text : List ℕ) → ((word rest : List ℕ) → length word ≤ longest → text ≡ spaced word rest → ⊥)
     → MatchOption o ((text ≡ codes "flush" → ⊥) × (text ≡ codes "queue" → ⊥)) (λ c. Spells c text) → Reads Spells o text
 lone_only (Some c) text h s = s
 lone_only None text h s = elim [
-  | Line kind m ↦ λ t. h (codes "line") _ t.1
-  | Write v ↦ λ t. h (codes "write") _ t.1
-  | Read n ↦ λ t. h (codes "read") _ t.1
+  | Line kind m ↦ λ t. h (codes "line") _ (lit≤ tt) t.1
+  | Write v ↦ λ t. h (codes "write") _ (lit≤ tt) t.1
+  | Read n ↦ λ t. h (codes "read") _ (lit≤ tt) t.1
   | Flush ↦ s.0
   | Queue ↦ s.1
-  | Carry v ↦ λ t. h (codes "carry") _ t.1
-  | Pixel format v ↦ λ t. h (codes "pixel") _ t.1
-  | Describe format ↦ λ t. h (codes "describe") _ t
-  | Recognize v ↦ λ t. h (codes "format") _ t.1.1
+  | Carry v ↦ λ t. h (codes "carry") _ (lit≤ tt) t.1
+  | Pixel format v ↦ λ t. h (codes "pixel") _ (lit≤ tt) t.1
+  | Describe format ↦ λ t. h (codes "describe") _ (lit≤ tt) t
+  | Recognize v ↦ λ t. h (codes "format") _ (lit≤ tt) t.1.1
 ]
 
 -- a first word that begins no form

@@ -1,5 +1,5 @@
 -- A text is its first word, a space and the rest in one way only.
-use Rattle.std.proofs.Common.{◌≡◌, ℕ, suc, ◌+◌, ◌-◌, ◌<◌, false, cond, eqb, List, [], ◌∷◌, ◌++◌, length, get_or, take, drop, Option, MatchOption, sym, refl, ap, ◌∙◌, arith}
+use Rattle.std.proofs.Common.{◌≡◌, ℕ, suc, ◌+◌, ◌-◌, ◌<◌, ◌≤◌, false, cond, eqb, List, [], ◌∷◌, ◌++◌, length, get_or, take, drop, Option, MatchOption, sym, refl, ap, ◌∙◌, arith}
 use Rattle.std.specs.List.{AllWithin, HoldsAt}
 use Rattle.std.proofs.lemmas.List.{drop_more, get_or_at, get_or-take, length-append, length-take, take-append-drop, take_rest}
 use Rattle.std.proofs.lemmas.Bool.Decides.{nat_tests}
@@ -42,9 +42,22 @@ pub space_at : (text word rest : List ℕ) → text ≡ spaced word rest → (le
 space_at text word rest e =
     (omega (arith, ap length e ∙ length-append word (32 ∷ rest)), ap (λ t. get_or t (length word) 0) e ∙ get_or_at word 32 rest 0 (length word) refl)
 
--- a text with no space has no first word
-pub no_split : (text : List ℕ) → AllWithin NoSpace text 0 (length text) → (word rest : List ℕ) → text ≡ spaced word rest → ⊥
-no_split text none word rest e = let at = space_at text word rest e in none (length word) 0 (omega arith) at.0 at.1
+-- a text with no space so near its beginning has no first word that is so short
+pub no_split :
+    (most size : ℕ) (text : List ℕ) → most < size → AllWithin NoSpace (take size text) 0 (length (take size text))
+    → (word rest : List ℕ) → length word ≤ most → text ≡ spaced word rest → ⊥
+no_split most size text fits none word rest short e =
+    let at = space_at text word rest e in
+    none (length word) 0 (omega arith) (omega (arith, length-take size text)) (get_or-take size text (length word) 0 (omega arith) ∙ at.1)
+
+-- the first space among the first codes is the text's
+pub first_of : (size : ℕ) (text : List ℕ) (i : ℕ) → IsFirstSpace (take size text) i → IsFirstSpace text i
+first_of size text i found =
+    let near : i < size = omega (arith, length-take size text) in (
+      omega (arith, length-take size text),
+      (λ d. sym (get_or-take size text i d near) ∙ found.1 d),
+      λ k d low high space. found.2 k d low high (get_or-take size text k d (omega arith) ∙ space),
+    )
 
 -- a text at its first space
 pub split :

@@ -5,6 +5,10 @@ use Rattle.std.specs.Prelude.{◌≡◌, ℕ, ◌<◌, List, ◌++◌, length, c
 abbrev pub Unspaced : List ℕ → Type 0
 Unspaced word = (k : ℕ) → k < length word → slice_index word k ≢ 32
 
+-- the longest word before a space is `describe`
+abbrev pub longest : ℕ
+longest = 8
+
 -- the word, a space and the rest
 abbrev pub spaced : List ℕ → List ℕ → List ℕ
 spaced word rest = word ++ (codes " " ++ rest)

@@ -11,7 +11,7 @@ mod regions;
 mod split;
 mod word;
 
-use notation::parse_hex;
+use notation::{parse_hex, parse_number};
 use pixel::Format;
 pub use region::Operation;
 pub use regions::{Change, Name, RegionCommand, parse_region};
@@ -85,19 +85,19 @@ fn lone(text: &[u8]) -> Option<Command>
     }
 }
 
-// What stands behind `line `.
+// What stands behind `line `. A number that does not fit is read as the largest that does.
 fn line(text: &[u8]) -> Option<Command>
     ensures { Reads Spells result (spaced (codes "line") text.now) }
 {
     let (kind, rest) = first(text)?;
-    Some(Command::Line(kind, usize::from_word(rest)?))
+    Some(Command::Line(kind, parse_number(rest)?))
 }
 
 // What stands behind `read `.
 fn read(text: &[u8]) -> Option<Command>
     ensures { Reads Spells result (spaced (codes "read") text.now) }
 {
-    usize::from_word(text)
+    parse_number(text)
         .filter(|n| *n <= READ_LIMIT)
         .map(Command::Read)
 }

@@ -1,12 +1,13 @@
 // Values that the console writes as one word.
 ghost use Rattle.command.specs.Changes.{SpellsShort, name_word, operation_word};
 ghost use Rattle.command.specs.Grammar.{kind_word};
-ghost use Rattle.command.specs.Spaces.{Unspaced};
+ghost use Rattle.command.specs.Lengths.{byte_within, format_within, kind_within, name_within, operation_within, short_within};
+ghost use Rattle.command.specs.Spaces.{Unspaced, longest};
 ghost use Rattle.command.specs.Unspaced.{format_unspaced, kind_unspaced, name_unspaced, number_unspaced, operation_unspaced};
-ghost use Rattle.notation.specs.Decimal.{SpellsBelow, SpellsNumber};
+ghost use Rattle.notation.specs.Decimal.{SpellsBelow};
 ghost use Rattle.notation.specs.Formats.{format_word};
 ghost use Rattle.notation.specs.Reads.{Reads};
-ghost use Rattle.std.specs.Prelude.{◌≡◌, ℕ, List};
+ghost use Rattle.std.specs.Prelude.{◌≡◌, ℕ, ◌≤◌, List, length};
 
 use super::Kind;
 use super::regions::Name;
@@ -14,7 +15,7 @@ use notation::parse_number;
 use pixel::Format;
 use region::Operation;
 
-// A value that is written as one word.
+// A value that is written as one word, short enough to stand before a space.
 pub(crate) trait Word: Copy {
     ghost spells: { Self → List ℕ → Type 0 };
 
@@ -23,12 +24,16 @@ pub(crate) trait Word: Copy {
         ensures { Reads spells result text.now };
 
     ghost unspaced: { (x : Self) (text : List ℕ) → spells x text → Unspaced text };
+
+    ghost within: { (x : Self) (text : List ℕ) → spells x text → length text ≤ longest };
 }
 
 impl Word for Kind {
     ghost spells = { λ kind text. text ≡ kind_word kind };
 
     ghost unspaced = { kind_unspaced };
+
+    ghost within = { kind_within };
 
     fn from_word(text: &[u8]) -> Option<Kind> {
         match text {
@@ -45,6 +50,8 @@ impl Word for Format {
 
     ghost unspaced = { format_unspaced };
 
+    ghost within = { format_within };
+
     fn from_word(text: &[u8]) -> Option<Format> {
         match text {
             b"native" => Some(Format::Native),
@@ -60,6 +67,8 @@ impl Word for Name {
 
     ghost unspaced = { name_unspaced };
 
+    ghost within = { name_within };
+
     fn from_word(text: &[u8]) -> Option<Name> {
         match text {
             b"a" => Some(Name::A),
@@ -73,6 +82,8 @@ impl Word for Operation {
     ghost spells = { λ operation text. text ≡ operation_word operation };
 
     ghost unspaced = { operation_unspaced };
+
+    ghost within = { operation_within };
 
     fn from_word(text: &[u8]) -> Option<Operation> {
         match text {
@@ -89,6 +100,8 @@ impl Word for u8 {
 
     ghost unspaced = { λ n text s. number_unspaced n text s.1 };
 
+    ghost within = { byte_within };
+
     fn from_word(text: &[u8]) -> Option<u8> {
         u8::try_from(parse_number(text)?).ok()
     }
@@ -99,18 +112,9 @@ impl Word for u16 {
 
     ghost unspaced = { λ n text s. number_unspaced n text s.1 };
 
+    ghost within = { short_within };
+
     fn from_word(text: &[u8]) -> Option<u16> {
         u16::try_from(parse_number(text)?).ok()
-    }
-}
-
-// A number that does not fit is read as the largest that does.
-impl Word for usize {
-    ghost spells = { SpellsNumber };
-
-    ghost unspaced = { λ m text s. number_unspaced s.0 text s.1 };
-
-    fn from_word(text: &[u8]) -> Option<usize> {
-        parse_number(text)
     }
 }

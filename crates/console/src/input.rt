@@ -2,7 +2,7 @@
 // work stay bounded whatever comes in.
 ghost use Rattle.std.specs.Prelude.{◌≢◌, ◌+◌, ◌≤◌, length, All, IfOk, IfSome};
 
-use std::alloc::Global;
+use std::alloc::{AllocError, Global};
 use std::io;
 use std::io::{BufRead, BufReader, Read};
 use std::rt::Stdin;
@@ -13,6 +13,9 @@ pub const LONGEST: usize = 200_000;
 // How many bytes of a line are read at most: one more tells that it is too long.
 const START: u64 = 200_001;
 
+// How many bytes are asked of standard input at once: what stands behind them is left to others.
+const BLOCK: usize = 4096;
+
 // Standard input, line by line.
 #[derive(Drop)]
 pub struct Input {
@@ -21,9 +24,11 @@ pub struct Input {
 }
 
 impl Input {
-    pub(crate) fn new(heap: Global, stdin: Stdin) -> io::Result<Input> {
+    pub(crate) fn new(heap: Global, stdin: Stdin) -> Result<Input, AllocError> {
+        // It fails only for want of memory.
+        let reader = BufReader::with_capacity(heap, BLOCK, stdin).map_err(|_| AllocError)?;
         Ok(Input {
-            reader: BufReader::new(heap, stdin)?,
+            reader,
             line: Vec::new(heap),
         })
     }

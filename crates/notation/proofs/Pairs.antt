@@ -1,9 +1,11 @@
 -- What a byte string's spelling looks like, and that it can be read in one way.
-use Rattle.std.proofs.Common.{◌≡◌, ℕ, ◌+◌, ◌-◌, ◌*◌, ◌/◌, ◌%◌, ◌<◌, ◌≤◌, ◌==◌, cond, ltb, List, [], ◌∷◌, ◌++◌, length, get_or, take, drop, vec_items, Vec, sym, refl, ap, ◌∙◌, subst, arith}
+use Rattle.std.proofs.Common.{◌≡◌, ℕ, suc, ◌+◌, ◌-◌, ◌*◌, ◌/◌, ◌%◌, ◌<◌, ◌≤◌, ◌==◌, cond, ltb, List, [], ◌∷◌, ◌++◌, length, get_or, set, take, drop, vec_items, Vec, sym, refl, ap, ◌∙◌, subst, arith}
 use Rattle.std.specs.declared.alloc.Global.{Global}
 use Rattle.std.specs.Bool.{then_some}
-use Rattle.std.proofs.lemmas.List.{append_assoc, append-nil, length-append, take_rest}
+use Rattle.std.proofs.lemmas.List.{append_assoc, append-nil, length-append, length-set, take_more, take_more_set, take_rest}
 use Rattle.std.proofs.lemmas.Bool.Decides.{nat_tests}
+use Rattle.std.proofs.lemmas.Str.Ascii.{IsAscii-nil, IsAscii-cons}
+use Rattle.std.specs.Str.{IsAscii}
 use Rattle.notation.specs.Hex.{Bytes, SpellsPair, hex_digit, hex_pairs, hex_of}
 use Rattle.notation.specs.Reads.{ReadsBytes}
 
@@ -14,6 +16,41 @@ pairs_append (b ∷ bs) cs = ap (λ ds. hex_digit (b / 16) ∷ hex_digit (b % 16
 pub length_pairs : (bs : List ℕ) → length (hex_pairs bs) ≡ 2 * length bs
 length_pairs [] = refl
 length_pairs (b ∷ bs) = omega (arith, length_pairs bs)
+
+-- each code is one of ASCII
+digit_ascii : (d : ℕ) → d < 16 → hex_digit d < 128
+digit_ascii d h = grind (arith, nat_tests)
+
+pub pairs_ascii : (bs : List ℕ) → ((i : ℕ) → get_or bs i 0 < 256) → IsAscii (hex_pairs bs)
+pairs_ascii [] small = IsAscii-nil
+pairs_ascii (b ∷ bs) small =
+    let byte : b < 256 = small 0 in
+    let low = IsAscii-cons (hex_digit (b % 16)) (hex_pairs bs) (digit_ascii (b % 16) (omega arith)) (pairs_ascii bs (λ i. small (suc i))) in
+    IsAscii-cons (hex_digit (b / 16)) (hex_digit (b % 16) ∷ hex_pairs bs) (digit_ascii (b / 16) (omega arith)) low
+
+-- only where there are no bytes is their text not that of their pairs
+pub pairs_of_some : (bs : List ℕ) → 0 < length bs → hex_pairs bs ≡ hex_of bs
+pairs_of_some [] some = absurd (omega arith)
+pairs_of_some (b ∷ bs) some = refl
+
+-- one more byte's digits are put behind those of the bytes so far
+pub put_pair :
+    (bytes digits : List ℕ) (i h l : ℕ) → i < length bytes → 2 * i + 1 < length digits
+    → h ≡ hex_digit (get_or bytes i 0 / 16) → l ≡ hex_digit (get_or bytes i 0 % 16)
+    → take (2 * i) digits ≡ hex_pairs (take i bytes)
+    → take (2 * (i + 1)) (set (set digits (2 * i) h) (2 * i + 1) l) ≡ hex_pairs (take (i + 1) bytes)
+put_pair bytes digits i h l within room high low so_far =
+    let two : 2 * (i + 1) ≡ 2 * i + 1 + 1 = omega arith in
+    let first = take_more_set digits (2 * i) h (omega arith) in
+    let second = take_more_set (set digits (2 * i) h) (2 * i + 1) l (omega (arith, length-set digits (2 * i) h)) in
+    let more = take_more bytes i 0 within in
+    let pairs = pairs_append (take i bytes) (get_or bytes i 0 ∷ []) in
+    let parts = append_assoc (hex_pairs (take i bytes)) (h ∷ []) (l ∷ []) in
+    cc
+
+-- no text of odd length is a spelling
+pub no_odd : (text bs : List ℕ) → (length text % 2 ≡ 0 → ⊥) → text ≡ hex_pairs bs → ⊥
+no_odd text bs odd e = odd (omega (arith, ap length e, length_pairs bs))
 
 -- the digit, and the bytes, that a spelling writes
 abbrev undigit : ℕ → ℕ

@@ -9,8 +9,10 @@ ghost use Rattle.notation.specs.Reads.{Reads, ReadsBytes};
 ghost use Rattle.notation.specs.Writes.{Writes};
 
 mod hex_text;
+mod number_text;
 
 pub use hex_text::HexText;
+pub use number_text::NumberText;
 use pixel::Format;
 use std::alloc::{AllocError, Global};
 
@@ -44,7 +46,7 @@ pub fn hex(heap: Global, bytes: &[u8]) -> Result<String, AllocError>
 pub fn number(heap: Global, n: usize) -> Result<String, AllocError>
     ensures { Writes result (decimal n) }
 {
-    n.to_string(heap)
+    NumberText(n).to_string(heap)
 }
 
 // The value of an upper-case digit; a lower-case one has none.
@@ -71,6 +73,10 @@ fn byte(high: u8, low: u8) -> Option<u8>
 fn parse_pairs(heap: Global, text: &[u8]) -> Result<Option<Vec<u8>>, AllocError>
     ensures { IfOk result (λ o. ReadsBytes hex_pairs o text.now) }
 {
+    // Told by its length alone, before any memory is asked for.
+    if text.len() % 2 != 0 {
+        return Ok(None);
+    }
     let mut bytes = Vec::with_capacity(heap, text.len() / 2)?;
     let mut rest = text;
     while let [high, low, tail @ ..] = rest {

@@ -26,7 +26,7 @@ pub fn fill<T: Copy>(cells: &mut [T], sides: Sides, rect: Rect, value: T) -> Res
     ensures cases { MatchResult result (λ _. Painted sides rect (plain value) cells.old cells.new) (λ _. cells.new ≡ cells.old) }
 {
     fits(cells, sides)?;
-    let part = rect.cut(sides);
+    let part = rect.cut(sides); // what the screen shows of it
     for row in 0..part.h {
         // `fill` would ask what a clone of the value is.
         cells[sides.run(part.x, part.y + row, part.w)].fill_with(|| value);

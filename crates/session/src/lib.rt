@@ -2,7 +2,7 @@
 #![tactic(auto)]
 
 ghost use Rattle.session.specs.Replies.{Responded};
-ghost use Rattle.transfer.specs.Runs.{OrUnchanged};
+ghost use Rattle.transfer.specs.Runs.{Answered, OrUnchanged, act, reply};
 
 mod pixels;
 mod regions;
@@ -13,7 +13,8 @@ use line::Line;
 pub use pixels::{say_description, say_format, say_pixel};
 pub use regions::say_boxes;
 use std::alloc::{AllocError, Global};
-use transfer::{Answer, Call, carry, make};
+use std::slice::from_ref;
+use transfer::{Answer, Call, carry, converse};
 pub use words::say;
 
 #[derive(Debug, PartialEq, Eq, Drop)]
@@ -38,6 +39,14 @@ pub enum Reply {
     Refused(Refusal),
 }
 
+// Makes one call, as a list of one: so all that is said of lists of calls holds of it.
+fn call<L: Line>(heap: Global, line: &mut L, made: &Call) -> Result<Answer, AllocError>
+    ensures { OrUnchanged result (λ a. Answered (act made.now) (reply a)) (L.state line.old) (L.state line.new) }
+{
+    let mut answers = converse(heap, line, from_ref(made))?;
+    Ok(answers.pop().unwrap())
+}
+
 // Carries bytes to memory of their length.
 fn carried<L: Line>(heap: Global, line: &mut L, bytes: Vec<u8>) -> Result<Reply, AllocError>
     ensures { OrUnchanged result (Responded (Request.Carry bytes)) (L.state line.old) (L.state line.new) }
@@ -57,7 +66,7 @@ pub fn respond<L: Line>(heap: Global, line: &mut L, request: Request) -> Result<
     ensures { OrUnchanged result (Responded request) (L.state line.old) (L.state line.new) }
 {
     match request {
-        Request::Make(made) => Ok(Reply::Made(make(heap, line, &made)?)),
+        Request::Make(made) => Ok(Reply::Made(call(heap, line, &made)?)),
         Request::Queue => Ok(Reply::Queued {
             queued: line.queued(),
             readable: line.readable(),

@@ -4,6 +4,7 @@ ghost use Rattle.session.specs.Boxes.{box_words, boxes_words};
 ghost use Rattle.std.specs.Prelude.{Some};
 
 use boxes::CellBox;
+use notation::NumberText;
 use screen::Rect;
 use std::alloc::{AllocError, Global};
 use std::fmt;
@@ -15,9 +16,10 @@ struct BoxText(CellBox);
 impl fmt::Display for BoxText {
     ghost output = { λ t. Some (box_words t.0) };
 
-    #[tactic(auto, using(notation::proofs::Printed::printed_decimal))]
     fn fmt<W: fmt::Write>(&self, f: &mut fmt::Formatter<W>) -> fmt::Result {
         let Rect { x, y, w, h } = Rect::from(self.0);
+        let (x, y) = (NumberText(usize::from(x)), NumberText(usize::from(y)));
+        let (w, h) = (NumberText(usize::from(w)), NumberText(usize::from(h)));
         write!(f, " {x},{y},{w},{h}")
     }
 }
@@ -29,9 +31,8 @@ struct BoxesText<'a>(&'a [CellBox]);
 impl fmt::Display for BoxesText<'_> {
     ghost output = { λ t. Some (boxes_words t.0.now) };
 
-    #[tactic(auto, using(notation::proofs::Printed::printed_decimal))]
     fn fmt<W: fmt::Write>(&self, f: &mut fmt::Formatter<W>) -> fmt::Result {
-        write!(f, "{}", self.0.len())?;
+        write!(f, "{}", NumberText(self.0.len()))?;
         for &cells in self.0 {
             write!(f, "{}", BoxText(cells))?;
         }

@@ -4,7 +4,7 @@ ghost use Rattle.session.specs.Replies.{spoken};
 ghost use Rattle.std.specs.Prelude.{Some};
 
 use super::Reply;
-use notation::HexText;
+use notation::{HexText, NumberText};
 use std::alloc::{AllocError, Global};
 use std::fmt;
 use transfer::Answer;
@@ -12,23 +12,29 @@ use transfer::Answer;
 impl fmt::Display for Reply {
     ghost output = { λ r. Some (spoken r) };
 
-    #[tactic(auto, using(notation::proofs::Printed::printed_decimal))]
     fn fmt<W: fmt::Write>(&self, f: &mut fmt::Formatter<W>) -> fmt::Result {
         match self {
-            &Reply::Made(Answer::Took(count)) => write!(f, "took {count}"),
+            &Reply::Made(Answer::Took(count)) => write!(f, "took {}", NumberText(count)),
             Reply::Made(Answer::Gave(bytes)) => write!(f, "got {}", HexText(bytes)),
             Reply::Made(Answer::Done) => f.write_str("flushed"),
             &Reply::Queued {
                 queued,
                 readable,
                 free,
-            } => write!(f, "queued {queued} readable {readable} free {free}"),
+            } => {
+                let (queued, readable) = (NumberText(queued), NumberText(readable));
+                let free = NumberText(free);
+                write!(f, "queued {queued} readable {readable} free {free}")
+            }
             Reply::Carried { rounds, bytes } => {
-                let (count, rounds) = (bytes.len(), *rounds);
+                let (count, rounds) = (NumberText(bytes.len()), NumberText(*rounds));
                 let bytes = HexText(bytes);
                 write!(f, "carried {count} in {rounds} rounds {bytes}")
             }
-            Reply::Refused(refusal) => write!(f, "refused {}", refusal.number()),
+            Reply::Refused(refusal) => {
+                let number = NumberText(usize::from(refusal.number()));
+                write!(f, "refused {number}")
+            }
         }
     }
 }

@@ -1,10 +1,10 @@
 -- Every run conserves the bytes.
-use Rattle.std.proofs.Common.{◌≡◌, ℕ, ◌+◌, ◌-◌, ◌<◌, ◌≤◌, List, [], ◌∷◌, ◌++◌, map, length, get_or, take, sym, refl, ap, ◌∙◌, subst, arith}
-use Rattle.std.proofs.lemmas.List.{append_assoc, append-nil, take_all, take-map, length-map, map_more, map_push}
-use Rattle.line.specs.Rules.{State}
+use Rattle.std.proofs.Common.{◌≡◌, ℕ, ◌+◌, ◌-◌, ◌<◌, ◌≤◌, min, List, [], ◌∷◌, ◌++◌, map, length, get_or, take, drop, sym, refl, ap, ◌∙◌, subst, arith}
+use Rattle.std.proofs.lemmas.List.{append_assoc, append-nil, length-take-le, take_at, take_all, take-append-drop, take-map, length-map, map_more, map_push}
+use Rattle.line.specs.Rules.{State, Within, Read}
 use Rattle.transfer.specs.declared.calls.Answer.{Answer}
 use Rattle.transfer.specs.declared.calls.Call.{Call}
-use Rattle.transfer.specs.Runs.{Act, write, read, flush, Reply, took, gave, done, Answered, Ran, taken_in, given_in, taken, given, act, reply, Conserved, Stopped}
+use Rattle.transfer.specs.Runs.{Act, write, read, flush, Reply, took, gave, done, Answered, Ran, Received, taken_in, given_in, taken, given, act, reply, Conserved, Stopped}
 
 -- one call conserves them
 once : (a : Act) (r : Reply) (s t : State) → Answered a r s t → given_in r ++ t.queue ≡ s.queue ++ taken_in a r
@@ -29,6 +29,20 @@ pub ran_more : (acts : List Act) (rs : List Reply) (a : Act) (r : Reply) (s m t 
 ran_more [] [] a r s m t e w = (t, subst (λ (z : State). Answered a r z t) (sym e) w, refl)
 ran_more (b ∷ acts) (q ∷ rs) a r s m t h w = (h.0, h.1, ran_more acts rs a r h.0 m t h.2 w)
 ran_more acts rs a r s m t h w = absurd h
+
+-- a read into memory, as its caller sees it: `bs` is the part of the memory that was read into
+pub received :
+    (into into' rest bs : List ℕ) (most n : ℕ) (s t : State) → Within s.queue s.ready → length into ≡ most → length into' ≡ most → Read into n into' s t
+    → bs ≡ take n (take most (into' ++ rest)) → Received most bs s t
+received into into' rest bs most n s t l e f h p =
+    let q = s.queue in
+    let count = h.count in
+    let long : length (take n q) ≡ n = length-take-le n q (omega arith) in
+    let same : bs ≡ take n q = p ∙ ap (take n) (take_at into' rest most f ∙ h.moved) ∙ take_at (take n q) (drop n into) n long in
+    record {
+      count = ap length same ∙ long ∙ count ∙ ap (λ z. min z s.ready) e;
+      split = sym (take-append-drop n q) ∙ ap (λ z. take n q ++ z) (sym h.queued) ∙ ap (λ z. z ++ t.queue) (sym same);
+    }
 
 -- the calls before place `i` were made, and now the one at `i`
 pub ran_next :

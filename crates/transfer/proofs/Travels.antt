@@ -1,5 +1,5 @@
 -- A byte string under way: every round brings it further, and the rounds add up.
-use Rattle.std.proofs.Common.{◌≡◌, ℕ, suc, ◌+◌, ◌-◌, ◌<◌, ◌≤◌, min, List, [], ◌∷◌, ◌++◌, length, take, drop, sym, refl, ap, ◌∙◌, subst, add-zero, arith}
+use Rattle.std.proofs.Common.{◌≡◌, ℕ, suc, ◌+◌, ◌-◌, ◌<◌, ◌≤◌, min, List, [], ◌∷◌, ◌++◌, length, take, drop, sym, refl, ap, ◌∙◌, subst, add-zero, zero-add, arith}
 use borrow.Rule.Slice.PartMut.{put_mid}
 use Rattle.std.proofs.lemmas.List.{drop_all, drop_at, drop-drop, length-append, length-drop, length-take, length-take-le, take_all, take-append-drop, take_at, take_rest, same_lists, places}
 use Rattle.line.specs.Rules.{State, Within, Opens, Wrote, Read, Flushed}
@@ -118,23 +118,34 @@ pub record Travelling (bytes into₀ : List ℕ) (s₀ : State) (trip : Trip) (r
   pub few : rounds ≤ trip.got
   pub history : (n : ℕ) (t : State) → Rounds n bytes trip.sent trip.got s t → Rounds (rounds + n) bytes 0 0 s₀ t
 
--- one round more
+-- before the first round
+pub setting_out : (bytes into : List ℕ) (s : State) → s.queue ≡ [] → Travelling bytes into s (record { sent = 0; got = 0 }) 0 into s
+setting_out bytes into s e =
+    record {
+      underway = record { sent_most = omega arith; got_most = omega arith; queued = e; arrived = refl };
+      few = omega arith;
+      history = λ n t h. subst (λ (k : ℕ). Rounds k bytes 0 0 s t) (sym (zero-add n)) h;
+    }
+
+-- one round more, in which at least one byte arrives
 pub onward :
     (bytes into₀ into into' : List ℕ) (s₀ s t : State) (trip trip' : Trip) (rounds : ℕ) → length bytes ≤ length into₀ → trip.got < length bytes
     → Opens s.queue s.room → Travelling bytes into₀ s₀ trip rounds into s → Advanced bytes trip trip' into into' s t
-    → Travelling bytes into₀ s₀ trip' (rounds + 1) into' t
+    → Travelling bytes into₀ s₀ trip' (rounds + 1) into' t × (trip.got < trip'.got)
 onward bytes into₀ into into' s₀ s t trip trip' rounds a l opens w v =
     let on = underway_more bytes into₀ into into' trip trip' s t a l opens w.underway v in
     let few = w.few in
-    let further = on.1 in
-    record {
-      underway = on.0;
-      few = omega arith;
-      history = λ n z h.
-          let rest : Rounds n bytes (trip.sent + v.taken) (trip.got + length v.new) t z =
-          subst (λ (k : ℕ). Rounds n bytes (trip.sent + v.taken) k t z) v.got_is (subst (λ (k : ℕ). Rounds n bytes k trip'.got t z) v.sent_is h) in
-          subst (λ (k : ℕ). Rounds k bytes 0 0 s₀ z) (omega arith) (w.history (suc n) z (l, v.taken, v.new, t, v.round, rest));
-    }
+    let further = on.1 in (
+      record {
+        underway = on.0;
+        few = omega arith;
+        history = λ n z h.
+            let rest : Rounds n bytes (trip.sent + v.taken) (trip.got + length v.new) t z =
+            subst (λ (k : ℕ). Rounds n bytes (trip.sent + v.taken) k t z) v.got_is (subst (λ (k : ℕ). Rounds n bytes k trip'.got t z) v.sent_is h) in
+            subst (λ (k : ℕ). Rounds k bytes 0 0 s₀ z) (omega arith) (w.history (suc n) z (l, v.taken, v.new, t, v.round, rest));
+      },
+      further,
+    )
 
 -- where all have arrived, they are all there is
 pub arrived :

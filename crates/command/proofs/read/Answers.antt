@@ -6,5 +6,5 @@ use Rattle.command.proofs.read.Goals as goal
 
 pub returns : goal.returns
 returns c =
-    read_limited c.args.text.now c.from_word.result c.map.result c.from_word.ensures
-    (kept (λ n. leb n read_limit) Read c.from_word.result c.filter.result c.map.result c.filter.ensures (λ n b k. search (rules, tests)) c.map.ensures.cases (λ n d k. search rules))
+    read_limited c.args.text.now c.parse_number.result c.map.result c.parse_number.ensures
+    (kept (λ n. leb n read_limit) Read c.parse_number.result c.filter.result c.map.result c.filter.ensures (λ n b k. search (rules, tests)) c.map.ensures.cases (λ n d k. search rules))

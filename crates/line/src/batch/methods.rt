@@ -27,7 +27,10 @@ impl<L: Line> Batch<L> {
         ensures some { 1 ≤ length (batch_state L.state self.old).queue → 1 ≤ length (L.state self.new.below).queue }
     {
         let taken = self.below.write(&self.held);
-        self.held.drain(..taken);
+        // A batch of its own for what stays: `drain` would move the bytes by way of 4,096 others.
+        let mut rest = ArrayVec::new();
+        rest.try_extend_from_slice(&self.held[taken..]).unwrap();
+        self.held = rest;
     }
 }
 

@@ -32,12 +32,13 @@ impl Ring {
     }
 
     // The place `by` bytes behind the head, going round at the memory's end.
-    #[tactic(auto, using(crate::proofs::Around::place_is))]
+    // It is passed once at most, so that no remainder, and no division, is needed.
     fn place(&self, by: usize) -> usize
         requires { by ≤ vec_len self.now.memory }
         ensures { result ≡ place_behind (vec_len self.now.memory) self.now.head by }
     {
-        (self.head + by) % self.memory.len()
+        let to = self.head + by;
+        to.checked_sub(self.memory.len()).unwrap_or(to)
     }
 
     // Puts bytes behind those that are queued.

@@ -1,19 +1,40 @@
-use Rattle.std.proofs.Common.{◌≡◌, ℕ, ◌+◌, ◌^◌, ◌-◌, ◌<◌, true, false, List, [], ◌∷◌, ◌++◌, length, get_or, take, sym, ap, ◌∙◌, rules}
+use Rattle.std.proofs.Common.{◌≡◌, ℕ, List, [], ◌++◌, sym, ap, ◌∙◌, rules, append_assoc, append-nil}
 use Rattle.std.proofs.Output.{has_written_append, has_written_of_eq}
-use Rattle.std.proofs.lemmas.Fmt.{hex_byte}
-use Rattle.std.proofs.lemmas.List.{take_more}
-use Rattle.std.specs.Fmt.{digits, format_spec, padded_integral}
+use Rattle.std.proofs.lemmas.List.{nil_from_length}
+use Rattle.std.proofs.lemmas.Str.{IsUtf8-from_ascii}
+use Rattle.std.specs.Slice.Iter.{chunks_rest}
 use Rattle.notation.specs.Hex.{hex_pairs}
-use Rattle.notation.proofs.Pairs.{pairs_append}
+use Rattle.notation.proofs.Pairs.{pairs_append, pairs_of_some}
 use Rattle.notation.proofs.hex_text.HexTextDisplay.fmt.Goals as goal
 
--- one more byte is written
-one_more : (bs : List ℕ) (i : ℕ) → i < length bs → get_or bs i 0 < 256
-    → hex_pairs (take i bs) ++ padded_integral (format_spec 32 0 4 2 (2 ^ 64 - 1)) false [] (digits 16 true (get_or bs i 0)) ≡ hex_pairs (take (i + 1) bs)
-one_more bs i within byte =
-    ap (λ ds. hex_pairs (take i bs) ++ ds) (hex_byte true (get_or bs i 0) byte)
-    ∙ sym (pairs_append (take i bs) (get_or bs i 0 ∷ [])) ∙ ap hex_pairs (sym (take_more bs i 0 within))
+pub unreachable-requires : goal.unreachable-requires
+unreachable-requires g c = c.in_default.ensures.cases.0 (IsUtf8-from_ascii _ c.put_pairs.ensures.ascii)
 
-pub loop-b-preserved : goal.loop-b-preserved
-loop-b-preserved g c = λ p.
-    has_written_of_eq _ _ _ _ _ (one_more c.args.self.now.0.now c.loop-b.b-index c.loop-b-test.true (search rules)) (has_written_append _ _ _ _ _ _ (c.loop-b.invariant p) (search rules))
+pub loop-piece-init : goal.loop-piece-init
+loop-piece-init g c = (search rules, tt, search rules, λ plain. ([], search rules, search rules))
+
+pub loop-piece-preserved : goal.loop-piece-preserved
+loop-piece-preserved g c =
+    let piece = c.in-Some.piece.now in
+    let steps = c.in-Some.ensures.steps in
+    let shown : c.in-Ok.text.now ≡ hex_pairs piece = c.in-Ok.ensures.cases.0 ∙ c.put_pairs.ensures.pairs in (
+      search rules,
+      tt,
+      steps.0 ∙ c.loop-piece.invariant.2,
+      λ plain.
+          let so_far = c.loop-piece.invariant.3 plain in (
+            so_far.0 ++ c.in-Ok.text.now,
+            has_written_append _ _ _ _ _ _ so_far.1 (search rules),
+            append_assoc so_far.0 _ _
+                ∙ ap (λ (t : List ℕ). so_far.0 ++ t)
+                (rw shown (sym (pairs_append piece (chunks_rest c.next.new.self)) ∙ ap hex_pairs (sym steps.1.0)))
+                ∙ so_far.2,
+          ),
+    )
+
+pub returns-clause-writes : goal.returns-clause-writes
+returns-clause-writes g c = λ plain _.
+    let so_far = c.loop-piece.invariant.3 plain in
+    let none = nil_from_length _ c.in-None.ensures.steps.1.0 in
+    let some = pairs_of_some c.args.self.now.0.now (search rules) in
+    has_written_of_eq _ _ _ _ _ (rw (none, append-nil) at so_far.2 ∙ some) so_far.1

@@ -1,8 +1,14 @@
-use Rattle.std.proofs.Common.{take}
+use Rattle.std.proofs.Common.{◌≡◌, ℕ, List, ◌++◌}
 use Rattle.std.specs.Fmt.{HasWritten, IsPlainFormatter}
+use Rattle.std.specs.Slice.Iter.{chunks_rest, chunks_size}
 use Rattle.notation.specs.Hex.{hex_pairs}
 use Rattle.notation.proofs.hex_text.HexTextDisplay.fmt.Given as goal
 
--- the bytes so far are written
-abbrev pub invariant-loop-b : goal.invariant-loop-b
-invariant-loop-b g l = IsPlainFormatter l.fn.f → HasWritten g.W.Write.write_str_gives l.fn.f (hex_pairs (take l.b-index l.b-items)) l.f
+-- the digits of the pieces so far are written
+abbrev pub invariant-loop-piece : goal.invariant-loop-piece
+invariant-loop-piece g l =
+    (goal.iterator-loop-piece g).can_next l.piece-iterator
+    × (goal.iterator-loop-piece g).is_finite l.piece-iterator
+    × (chunks_size l.piece-iterator ≡ 32)
+    × (IsPlainFormatter l.initial.f → (done : List ℕ) × HasWritten g.W.Write.write_str_gives l.initial.f done l.f
+    × (done ++ hex_pairs (chunks_rest l.piece-iterator) ≡ hex_pairs l.fn.self.0.now))
