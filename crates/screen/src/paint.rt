@@ -3,12 +3,14 @@
 // of a slice that a `Result` hands on nothing is known afterwards.
 ghost use Rattle.screen.specs.Paints.{Painted, block_cell, copy_refusal, fill_refusal, moved_to, plain, put_refusal, source_cell};
 ghost use Rattle.std.specs.Result.{result_err};
-ghost use Rattle.std.specs.Prelude.{◌≡◌, [], ◌∷◌, MatchResult};
+ghost use Rattle.std.specs.List.{CopiedTo, SameBelow, SameFrom};
+ghost use Rattle.std.specs.Prelude.{◌≡◌, ◌+◌, ◌-◌, ◌≤◌, [], ◌∷◌, length, MatchResult};
 
 use crate::corner::Corner;
 use crate::rect::Rect;
 use crate::sides::Sides;
 use fault::Refusal;
+use std::ops::Range;
 
 // Refuses memory that has no room for a screen with these sides.
 fn fits<T>(cells: &[T], sides: Sides) -> Result<(), Refusal>
@@ -78,9 +80,29 @@ pub fn copy<T: Copy>(cells: &mut [T], sides: Sides, source: Rect, to: Corner) ->
         let row = if upwards { part.h - 1 - i } else { i };
         let from = sides.run(source.x, source.y + row, part.w);
         let to = sides.run(part.x, part.y + row, part.w);
-        cells.copy_within(from, to.start);
+        copy_run(cells, from, to.start);
     }
     Ok(())
+}
+
+// Copies the run's cells, as they were, to the cells from the place `to` on. `copy_within` goes cell by
+// cell, and is left to runs that overlap.
+fn copy_run<T: Copy>(cells: &mut [T], from: Range<usize>, to: usize)
+    requires source { (from.start ≤ from.end) × (from.end ≤ length cells.old) }
+    requires target { to + (from.end - from.start) ≤ length cells.old }
+    ensures len { length cells.new ≡ length cells.old }
+    ensures by_index { CopiedTo cells.old cells.new from.start to (from.end - from.start) × SameBelow cells.old cells.new to × SameFrom cells.old cells.new (to + (from.end - from.start)) }
+{
+    let count = from.end - from.start;
+    if from.end <= to {
+        let (front, back) = cells.split_at_mut(to);
+        back[..count].copy_from_slice(&front[from]);
+    } else if to + count <= from.start {
+        let (front, back) = cells.split_at_mut(from.start);
+        front[to..to + count].copy_from_slice(&back[..count]);
+    } else {
+        cells.copy_within(from, to);
+    }
 }
 
 // The row 1 2 3 4, after its first three cells were copied one to the right, over themselves.

@@ -6,7 +6,7 @@ ghost use Rattle.std.specs.Prelude.{Some};
 use super::Reply;
 use notation::{HexText, NumberText};
 use std::alloc::{AllocError, Global};
-use std::fmt;
+use std::fmt::{self, Write};
 use transfer::Answer;
 
 impl fmt::Display for Reply {
@@ -39,9 +39,18 @@ impl fmt::Display for Reply {
     }
 }
 
-// A reply in words.
+// How much room the words for a reply need at most, but for the digits of its bytes.
+const ROOM: usize = 96;
+
+// A reply in words. All room is asked for at once.
 pub fn say(heap: Global, reply: &Reply) -> Result<String, AllocError>
     ensures { Writes result (spoken reply.now) }
 {
-    reply.to_string(heap)
+    let bytes = match reply {
+        Reply::Made(Answer::Gave(bytes)) | Reply::Carried { bytes, .. } => bytes.len(),
+        _ => 0,
+    };
+    let mut text = String::with_capacity(heap, bytes.saturating_mul(2).saturating_add(ROOM))?;
+    write!(text, "{reply}").map_err(|_| AllocError)?;
+    Ok(text)
 }

@@ -28,7 +28,7 @@ loop-i-preserved g c =
     (c.run-from.ensures.start ∙ ap (λ z. (source.y + z) * c.args.sides.width + source.x) row)
     c.loop-i.invariant)
     c.loop-i.invariant
-    (shift_part from at _ mid _ c.copy_within.ensures.len c.copy_within.ensures.by_index)
+    (shift_part from at _ mid _ c.copy_run.ensures.len c.copy_run.ensures.by_index)
 
 pub returns-clause-cases : goal.returns-clause-cases
 returns-clause-cases g c = all_rows _ _ _ _ _ _ _ _ c.cut-part.ensures (omega arith) c.loop-i.invariant
