@@ -39,18 +39,20 @@ impl fmt::Display for Reply {
     }
 }
 
-// How much room the words for a reply need at most, but for the digits of its bytes.
-const ROOM: usize = 96;
+// How much room the words beside a reply's bytes need at most.
+const ROOM: usize = 64;
 
-// A reply in words. All room is asked for at once.
+// A reply in words. All room for those with bytes is asked for at once.
 pub fn say(heap: Global, reply: &Reply) -> Result<String, AllocError>
     ensures { Writes result (spoken reply.now) }
 {
-    let bytes = match reply {
-        Reply::Made(Answer::Gave(bytes)) | Reply::Carried { bytes, .. } => bytes.len(),
+    let room = match reply {
+        Reply::Made(Answer::Gave(bytes)) | Reply::Carried { bytes, .. } => {
+            bytes.len().saturating_mul(2).saturating_add(ROOM)
+        }
         _ => 0,
     };
-    let mut text = String::with_capacity(heap, bytes.saturating_mul(2).saturating_add(ROOM))?;
+    let mut text = String::with_capacity(heap, room)?;
     write!(text, "{reply}").map_err(|_| AllocError)?;
     Ok(text)
 }
